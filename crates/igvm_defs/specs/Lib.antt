@@ -1,0 +1,5 @@
+pub mod Refusals
+pub mod Kinds
+pub mod Platforms
+pub mod Revision
+pub mod Vtls

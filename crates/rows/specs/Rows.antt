@@ -1,0 +1,35 @@
+-- A list of rows: how many there are, and the row at each index.
+use mathlib.Core.Bool.{Bool}
+use mathlib.Core.Option.{Option, none, some}
+use Prim.Native.Nat.{ℕ}
+use Rattle.rows.specs.Below.{anyBelow, lastBelow, countBelow, nthBelow}
+
+pub record Rows (H : Type 0) : Type 0 where
+  pub count : ℕ
+  pub row : ℕ → H
+
+module _ {H : Type 0} where
+  -- some row passes
+  abbrev pub any : (H → Bool) → Rows H → Bool
+  any p xs = anyBelow (xs .count) (λ i. p (xs .row i))
+
+  -- the row at an index that was looked for
+  abbrev pub rowAt : Rows H → Option ℕ → Option H
+  rowAt xs none = none
+  rowAt xs (some i) = some (xs .row i)
+
+  -- the last row that passes
+  abbrev pub last : (H → Bool) → Rows H → Option H
+  last p xs = rowAt xs (lastBelow (xs .count) (λ i. p (xs .row i)))
+
+  -- the rows before index i
+  abbrev pub before : ℕ → Rows H → Rows H
+  before i xs = record { count = i; row = xs .row }
+
+  -- how many rows pass
+  abbrev pub countOf : (H → Bool) → Rows H → ℕ
+  countOf p xs = countBelow (xs .count) (λ i. p (xs .row i))
+
+  -- the row that passes and has k rows before it that pass
+  abbrev pub nth : (H → Bool) → Rows H → ℕ → Option H
+  nth p xs k = rowAt xs (nthBelow (xs .count) (λ i. p (xs .row i)) k)

@@ -1,0 +1,4 @@
+pub mod Head
+pub mod Table
+pub mod Read
+pub mod Walk
