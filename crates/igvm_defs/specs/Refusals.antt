@@ -27,6 +27,10 @@ refuse test f later = cond test f later
 unfoldable pub isFault : Fault → Bool
 isFault f = not (eqb (f .number) 0)
 
+-- the fault where there is one, else what the later tests say
+abbrev pub orFault : Fault → Fault → Fault
+orFault f later = cond (isFault f) f later
+
 unfoldable pub isRefusal : Refusal → Bool
 isRefusal r = not (eqb (r .number) 0)
 

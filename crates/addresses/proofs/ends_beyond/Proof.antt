@@ -1,0 +1,16 @@
+use borrow.Author.Needs.{needs}
+use Rattle.addresses.proofs.ends_beyond.Statement.{statement}
+use Rattle.addresses.proofs.ends_beyond.Tie as tie
+use Rattle.addresses.proofs.ends_beyond.Reads as reads
+use Rattle.addresses.proofs.ends_beyond.Lts as lts
+
+-- src/lib.rt:59:5
+sub-result : tie.Need-sub-result
+sub-result c = search needs
+
+-- src/lib.rt:56:1
+returns : tie.Need-returns
+returns c = ?
+
+pub ends-beyond-spec : {M : Type 1} → statement M
+ends-beyond-spec = tie.close (tie.spec sub-result returns)

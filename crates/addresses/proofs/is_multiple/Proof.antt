@@ -1,0 +1,20 @@
+use borrow.Author.Needs.{needs}
+use Rattle.addresses.proofs.is_multiple.Statement.{statement}
+use Rattle.addresses.proofs.is_multiple.Tie as tie
+use Rattle.addresses.proofs.is_multiple.Reads as reads
+use Rattle.addresses.proofs.is_multiple.Lts as lts
+
+-- src/lib.rt:12:9
+returns : tie.Need-returns
+returns c = ?
+
+-- src/lib.rt:14:5
+rem-result : tie.Need-rem-result
+rem-result c = search needs
+
+-- src/lib.rt:8:1
+returns-2 : tie.Need-returns-2
+returns-2 c = ?
+
+pub is-multiple-spec : {M : Type 1} → statement M
+is-multiple-spec = tie.close (tie.spec returns rem-result returns-2)

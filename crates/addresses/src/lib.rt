@@ -1,0 +1,66 @@
+// Alignments and ranges of guest physical addresses. No test overflows.
+ghost use mathlib.Core.Path.{_≡_};
+ghost use Prim.Native.Nat.{_+_};
+ghost use lib.Dec.{leb, ltb};
+ghost use Rattle.addresses.specs.Addresses.{isMultiple, contains, meets, endsBeyond, baseValid};
+
+// x is a multiple of a; of 0 only 0 is.
+pub fn is_multiple(x: u64, a: u64) -> bool
+    ensures { λ r. ⌜ r ≡ isMultiple x a ⌝ }
+{
+    if a == 0 {
+        return x == 0;
+    }
+    x % a == 0
+}
+
+// On a page boundary.
+pub fn on_page(x: u64) -> bool
+    ensures { λ r. ⌜ r ≡ isMultiple x 4096 ⌝ }
+{
+    x % 4096 == 0
+}
+
+// a < b + n, with no sum that could wrap.
+fn before_end(a: u64, b: u64, n: u64) -> bool
+    ensures { λ r. ⌜ r ≡ ltb a (b + n) ⌝ }
+{
+    if a < b {
+        return true;
+    }
+    a - b < n
+}
+
+// b + n <= m, with no sum that could wrap.
+fn ends_by(b: u64, n: u64, m: u64) -> bool
+    ensures { λ r. ⌜ r ≡ leb (b + n) m ⌝ }
+{
+    if m < b {
+        return false;
+    }
+    n <= m - b
+}
+
+pub fn contains(base: u64, size: u64, gpa: u64) -> bool
+    ensures { λ r. ⌜ r ≡ contains base size gpa ⌝ }
+{
+    (base <= gpa) & before_end(gpa, base, size)
+}
+
+pub fn meets(base: u64, size: u64, base2: u64, size2: u64) -> bool
+    ensures { λ r. ⌜ r ≡ meets base size base2 size2 ⌝ }
+{
+    before_end(base, base2, size2) & before_end(base2, base, size)
+}
+
+pub fn ends_beyond(base: u64, size: u64) -> bool
+    ensures { λ r. ⌜ r ≡ endsBeyond base size ⌝ }
+{
+    18446744073709551615 - base < size
+}
+
+pub fn base_valid(alignment: u64, size: u64, minimum: u64, maximum: u64, base: u64) -> bool
+    ensures { λ r. ⌜ r ≡ baseValid alignment size minimum maximum base ⌝ }
+{
+    is_multiple(base, alignment) & (minimum <= base) & ends_by(base, size, maximum)
+}
