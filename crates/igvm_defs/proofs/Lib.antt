@@ -1,1 +1,5 @@
 pub mod Table
+pub mod Runs
+pub mod KindLaws
+pub mod VtlLaws
+pub mod Tags

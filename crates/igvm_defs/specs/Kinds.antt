@@ -54,6 +54,10 @@ lookup (x ∷ xs) k = cond (leb (x .first) k && leb k (x .last)) (x .kind) (look
 unfoldable pub kindOf : ℕ → Kind
 kindOf k = lookup spans k
 
+-- how many bytes at a body's start are fields; page data, initial data and opaque bytes come after them
+unfoldable pub fields : ℕ → ℕ
+fields kind = cond (eqb kind 17) 20 (kindOf kind .least)
+
 -- a body length that the kind allows
 unfoldable pub lengthOk : Kind → ℕ → Bool
 lengthOk t n = cond (t .exact) (eqb n (t .least)) (leb (t .least) n)

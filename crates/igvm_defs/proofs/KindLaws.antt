@@ -1,0 +1,72 @@
+-- Laws of the table of kinds: which kinds a list has, and that a body's fields lie within its least length.
+-- Assumes nothing.
+use mathlib.Core.Path.{_≡_, refl}
+use mathlib.Core.Bool.{Bool, true, false, cond, not, _&&_, _||_, false≢true}
+use mathlib.Core.List.{List, [], _∷_}
+use Prim.Native.Nat.{ℕ, suc, _<_, _≤_}
+use native.Mathlib.Omega.{arith}
+use lib.Dec.{leb, eqb}
+use lib.ListN.{length, take}
+use borrow.Author.Tests.{leb-true, eqb-true, eq-eqb}
+use Rattle.igvm_defs.specs.Kinds.{Span, lookup, spans, kindOf, fields, platformList, initializationList, directiveList}
+
+-- ---- the kinds of a list
+
+-- every kind of list l lies from lo to hi
+abbrev pub listWithin : ℕ → ℕ → ℕ → List Span → Bool
+listWithin l lo hi [] = true
+listWithin l lo hi (x ∷ xs) = (not (eqb (x .kind .list) l) || (leb lo (x .first) && leb (x .last) hi)) && listWithin l lo hi xs
+
+and-parts : (b c : Bool) → (b && c) ≡ true → (b ≡ true) × (c ≡ true)
+and-parts true c h = (refl, h)
+and-parts false c h = absurd (false≢true h)
+
+or-not : (t u : Bool) → (not t || u) ≡ true → t ≡ true → u ≡ true
+or-not true u h e = h
+or-not false u h e = absurd (false≢true e)
+
+pub within : (l lo hi k : ℕ) (xs : List Span) → listWithin (suc l) lo hi xs ≡ true → lookup xs k .list ≡ suc l → (lo ≤ k) × (k ≤ hi)
+within l lo hi k [] t e = absurd (omega arith)
+within l lo hi k (x ∷ xs) t e = go (within l lo hi k xs) (leb (x .first) k && leb k (x .last)) refl e
+  where
+    go : (listWithin (suc l) lo hi xs ≡ true → lookup xs k .list ≡ suc l → (lo ≤ k) × (k ≤ hi))
+        → (c : Bool) → (leb (x .first) k && leb k (x .last)) ≡ c → cond c (x .kind) (lookup xs k) .list ≡ suc l → (lo ≤ k) × (k ≤ hi)
+    go rest true c f =
+        let (p, q) = and-parts (leb (x .first) k) (leb k (x .last)) c in
+        let (u, v) = and-parts (not (eqb (x .kind .list) (suc l)) || (leb lo (x .first) && leb (x .last) hi)) (listWithin (suc l) lo hi xs) t in
+        let (y, z) = and-parts (leb lo (x .first)) (leb (x .last) hi) (or-not (eqb (x .kind .list) (suc l)) _ u (eq-eqb (x .kind .list) (suc l) f)) in
+        (omega (arith, leb-true (x .first) k p, leb-true lo (x .first) y), omega (arith, leb-true k (x .last) q, leb-true (x .last) hi z))
+    go rest false c f = rest (and-parts (not (eqb (x .kind .list) (suc l)) || (leb lo (x .first) && leb (x .last) hi)) (listWithin (suc l) lo hi xs) t .1) f
+
+pub platform-kind : (k : ℕ) → kindOf k .list ≡ platformList → k ≡ 1
+unfolding kindOf spans
+platform-kind k e = let (l, h) = within 0 1 1 k spans refl e in omega arith
+
+pub initialization-kind : (k : ℕ) → kindOf k .list ≡ initializationList → (16 ≤ k) × (k < 20)
+unfolding kindOf spans
+initialization-kind k e = let (l, h) = within 1 16 19 k spans refl e in (l, omega arith)
+
+pub directive-kind : (k : ℕ) → kindOf k .list ≡ directiveList → (32 ≤ k) × (k < 54)
+unfolding kindOf spans
+directive-kind k e = let (l, h) = within 2 32 53 k spans refl e in (l, omega arith)
+
+-- ---- fields
+
+-- never more than the least length of a body
+pub fields-least : (kind : ℕ) → fields kind ≤ kindOf kind .least
+unfolding fields kindOf spans
+fields-least kind = go (eqb kind 17) refl
+  where
+    go : (t : Bool) → eqb kind 17 ≡ t → fields kind ≤ kindOf kind .least
+    go true e = rw (eqb-true kind 17 e) (omega arith)
+    go false e = rw e (omega arith)
+
+-- a decoder of a list's rows sees the kind, the body's length and its fields
+abbrev pub Local : {H : Type 0} → ℕ → (ℕ → List ℕ → H) → Type 0
+Local list decode =
+    (kind : ℕ) (x y : List ℕ) → kindOf kind .list ≡ list → length x ≡ length y → take (fields kind) x ≡ take (fields kind) y
+    → decode kind x ≡ decode kind y
+
+-- the same at one kind
+abbrev pub LocalAt : {H : Type 0} → (ℕ → List ℕ → H) → ℕ → Type 0
+LocalAt decode kind = (x y : List ℕ) → length x ≡ length y → take (fields kind) x ≡ take (fields kind) y → decode kind x ≡ decode kind y

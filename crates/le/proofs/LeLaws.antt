@@ -1,0 +1,45 @@
+-- Laws of little-endian numbers: reads within the bytes that two lists share, and the bound of a number.
+-- Assumes nothing.
+use mathlib.Core.Path.{_≡_, refl, _∙_, ap, ap₂, sym}
+use mathlib.Core.Bool.{true}
+use mathlib.Core.List.{List}
+use Prim.Native.Nat.{ℕ, zero, suc, _+_, _*_, _^_, _<_, _≤_}
+use native.Mathlib.Nat.{pow-suc, mul-le-mul-left}
+use native.Mathlib.Omega.{arith}
+use lib.Dec.{leb, ltb}
+use lib.ListN.{take}
+use lib.Seq.{getD-take}
+use borrow.Author.Tests.{leb-true, ltb-true}
+use Rattle.rows.specs.Below.{sumBelow}
+use Rattle.le.specs.Le.{byteAt, leAt}
+
+sum-cong : (n : ℕ) (f g : ℕ → ℕ) → ((k : ℕ) → k < n → f k ≡ g k) → sumBelow n f ≡ sumBelow n g
+unfolding sumBelow
+sum-cong zero f g h = refl
+sum-cong (suc n) f g h = ap₂ (λ x y. x + y) (sum-cong n f g (λ k l. h k (omega arith))) (h n (omega arith))
+
+-- ---- two lists that agree on their first m bytes
+module _ (m : ℕ) (x y : List ℕ) (h : take m x ≡ take m y) where
+  pub byte-same : (o : ℕ) → o < m → byteAt x o ≡ byteAt y o
+  byte-same o l = sym (getD-take m x o 0 l) ∙ ap (λ (s : List ℕ). byteAt s o) h ∙ getD-take m y o 0 l
+
+  -- a read of w bytes at o, within the m bytes
+  pub le-same : (w o : ℕ) → o + w ≤ m → leAt w x o ≡ leAt w y o
+  unfolding leAt
+  le-same w o l = sum-cong w _ _ (λ k b. ap (λ n. 256 ^ k * n) (byte-same (o + k) (omega arith)))
+
+  -- the same two, with a bound that computes: `simp` proves it by itself
+  pub le-read : (w o : ℕ) → leb (o + w) m ≡ true → leAt w x o ≡ leAt w y o
+  le-read w o l = le-same w o (leb-true (o + w) m l)
+
+  pub byte-read : (o : ℕ) → ltb o m ≡ true → byteAt x o ≡ byteAt y o
+  byte-read o l = byte-same o (ltb-true o m l)
+
+-- ---- the bound
+pub le-bound : (w : ℕ) (b : List ℕ) (at : ℕ) → ((k : ℕ) → k < w → byteAt b (at + k) < 256) → leAt w b at < 256 ^ w
+unfolding leAt sumBelow
+le-bound zero b at h = omega arith
+le-bound (suc w) b at h =
+    let r : leAt w b at < 256 ^ w = le-bound w b at (λ k l. h k (omega arith)) in
+    let t : 256 ^ w * byteAt b (at + w) ≤ 256 ^ w * 255 = mul-le-mul-left (256 ^ w) (let q = h w (omega arith) in omega arith) in
+    rw (pow-suc 256 w) (omega arith)
