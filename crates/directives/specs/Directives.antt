@@ -21,12 +21,12 @@ use Rattle.initializations.specs.Regions.{regionPasses, tableHolds}
 
 -- the header alone: 21, 30, 22, 31
 abbrev pub validateDirective : IgvmDirectiveHeader → Fault
-validateDirective (PageData gpa mask flags type data) =
+validateDirective (PageData gpa mask flags type size) =
     refuse (not (onPage gpa)) (fault 21 gpa)
     (refuse (ltb 3 type) (fault 30 0)
-    (refuse (ltb 4096 data) (fault 31 0)
+    (refuse (ltb 4096 size) (fault 31 0)
     noFault))
-validateDirective (ParameterArea bytes area data) = refuse (not (onPage bytes)) (fault 22 bytes) (refuse (ltb bytes data) (fault 31 0) noFault)
+validateDirective (ParameterArea bytes area size) = refuse (not (onPage bytes)) (fault 22 bytes) (refuse (ltb bytes size) (fault 31 0) noFault)
 validateDirective (VpCount p) = noFault
 validateDirective (EnvironmentInfo p) = noFault
 validateDirective (Srat p) = noFault
@@ -82,8 +82,8 @@ badArea earlier h =
 
 -- 33: an insert at an address in a page table, under a shared bit
 abbrev pub insideTable : Rows IgvmInitializationHeader → IgvmDirectiveHeader → Bool
-insideTable initializations (PageData gpa mask flags type data) = false
-insideTable initializations (ParameterArea bytes area data) = false
+insideTable initializations (PageData gpa mask flags type size) = false
+insideTable initializations (ParameterArea bytes area size) = false
 insideTable initializations (VpCount p) = false
 insideTable initializations (EnvironmentInfo p) = false
 insideTable initializations (Srat p) = false
@@ -117,8 +117,8 @@ directiveFault arch initializations earlier h =
 
 -- the header is a VBS context of this VTL, and its mask shares a bit with this one
 abbrev pub isContext : ℕ → ℕ → IgvmDirectiveHeader → Bool
-isContext level bits (PageData gpa mask flags type data) = false
-isContext level bits (ParameterArea bytes area data) = false
+isContext level bits (PageData gpa mask flags type size) = false
+isContext level bits (ParameterArea bytes area size) = false
 isContext level bits (VpCount p) = false
 isContext level bits (EnvironmentInfo p) = false
 isContext level bits (Srat p) = false

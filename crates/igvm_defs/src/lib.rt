@@ -1,7 +1,7 @@
 // What every other crate speaks of: refusals, the tables of kinds and of platform types, architectures, revisions and VTLs.
 ghost use mathlib.Core.Path.{_≡_};
 ghost use Prim.Native.Nat.{_+_, _<_};
-ghost use Rattle.igvm_defs.specs.Refusals.{refuse, fault, isFault, isRefusal, inRow, orElse};
+ghost use Rattle.igvm_defs.specs.Refusals.{fault, refuse, orFault, isFault, isRefusal, inRow};
 ghost use Rattle.igvm_defs.specs.Kinds.{kindOf, lengthOk};
 ghost use Rattle.igvm_defs.specs.Platforms.{platformTypeOf, isPlatformType};
 ghost use Rattle.igvm_defs.specs.Revision.{archOf, pageSizeOf, isX64, isAArch64};
@@ -43,6 +43,16 @@ pub fn refuse(test: bool, number: u64, detail: u64, later: Fault) -> Fault
 {
     if test {
         return Fault { number, detail };
+    }
+    later
+}
+
+// The fault where there is one, else what the later tests say.
+pub fn or_fault(f: Fault, later: Fault) -> Fault
+    ensures { λ r. ⌜ r ≡ orFault f later ⌝ }
+{
+    if f.is_fault() {
+        return f;
     }
     later
 }
@@ -416,7 +426,7 @@ impl Vtl {
         }
     }
 
-    pub fn number(self) -> usize
+    pub fn code(self) -> u8
         ensures { λ r. ⌜ (r ≡ vtlNumber self) × (r < 3) ⌝ }
     {
         match self {

@@ -17,11 +17,9 @@ use Rattle.addresses.specs.Addresses.{isMultiple, onPage, endsBeyond}
 use Rattle.initializations.specs.declared.Region.{Region}
 use Rattle.initializations.specs.Regions.{regionPasses, tablesShare, overlap}
 
--- the header alone. Kind 17: 16. Kind 18: 17, 18, 19, 20. Kind 19: 21, 22, 23
-abbrev pub validateInitialization : IgvmInitializationHeader → Fault
-validateInitialization (GuestPolicy policy mask) = noFault
-validateInitialization (CcaPolicy mask zeroes ones) = refuse (shares zeroes ones) (fault 16 0) noFault
-validateInitialization (RelocatableRegion mask alignment gpa size minimum maximum vtl2 rip gdtr vp vtl) =
+-- kind 18 alone: 17, 18, 19, 20
+unfoldable pub validateRegion : ℕ → ℕ → ℕ → ℕ → ℕ → Fault
+validateRegion alignment gpa size minimum maximum =
     refuse (not (onPage size)) (fault 17 0)
     (refuse (not (onPage alignment)) (fault 18 0)
     (refuse (eqb alignment 0) (fault 19 0)
@@ -29,12 +27,23 @@ validateInitialization (RelocatableRegion mask alignment gpa size minimum maximu
     (refuse (not (isMultiple minimum alignment)) (fault 20 minimum)
     (refuse (not (isMultiple maximum alignment)) (fault 20 maximum)
     noFault)))))
-validateInitialization (PageTableRelocationRegion mask gpa size used vp vtl) =
+
+-- kind 19 alone: 21, 22 (size, used size), 23
+unfoldable pub validateTable : ℕ → ℕ → ℕ → Fault
+validateTable gpa size used =
     refuse (not (onPage gpa)) (fault 21 gpa)
     (refuse (not (onPage size)) (fault 22 size)
     (refuse (not (onPage used)) (fault 22 used)
     (refuse (ltb size used) (fault 23 0)
     noFault)))
+
+-- the header alone; of kind 17 refusal 16
+abbrev pub validateInitialization : IgvmInitializationHeader → Fault
+validateInitialization (GuestPolicy policy mask) = noFault
+validateInitialization (CcaPolicy mask zeroes ones) = refuse (shares zeroes ones) (fault 16 0) noFault
+validateInitialization (RelocatableRegion mask alignment gpa size minimum maximum vtl2 rip gdtr vp vtl) =
+    validateRegion alignment gpa size minimum maximum
+validateInitialization (PageTableRelocationRegion mask gpa size used vp vtl) = validateTable gpa size used
 
 -- a CcaPolicy stands with AArch64 alone
 abbrev pub wrongArch : Arch → IgvmInitializationHeader → Bool

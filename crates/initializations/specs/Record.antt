@@ -1,12 +1,15 @@
 -- The record of the regions read so far, and the rows that it stands for, in whatever order it keeps them.
 use Prim.Native.Nat.{ℕ, _+_, _≤_}
 use mathlib.Core.Path.{_≡_}
-use mathlib.Core.Bool.{Bool, false}
+use mathlib.Core.Bool.{Bool, false, _||_}
+use lib.Dec.{eqb}
 use lib.ListN.{getD}
 use Rattle.rows.specs.Below.{anyBelow}
 use Rattle.rows.specs.Rows.{Rows, any, before}
 use Rattle.igvm_defs.specs.declared.Arch.{Arch}
 use Rattle.igvm_defs.specs.declared.Fault.{Fault}
+use Rattle.igvm_defs.specs.Refusals.{fault, noFault, refuse, orFault}
+use Rattle.addresses.specs.Addresses.{endsBeyond}
 use Rattle.platform_header.specs.declared.IgvmPlatformHeader.{IgvmPlatformHeader}
 use Rattle.initialization_header.specs.declared.IgvmInitializationHeader.{IgvmInitializationHeader}
 use Rattle.initializations.specs.declared.Region.{Region}
@@ -30,10 +33,25 @@ entry r i =
 abbrev pub anyRegion : (Region → Bool) → RelocRegions → Bool
 anyRegion p r = anyBelow (r .count) (λ i. p (entry r i))
 
+-- the record q is the record r with one region more, in whatever order
+pub record Pushed (r : RelocRegions) (new : Region) (q : RelocRegions) : Type 0 where
+  pub count : q .count ≡ r .count + 1
+  pub same : (p : Region → Bool) → anyRegion p q ≡ (anyRegion p r || p new)
+
 -- the record has no more regions than there are rows, and a test finds a region in it exactly where a row's region passes
 pub record HoldsRegions (r : RelocRegions) (xs : Rows IgvmInitializationHeader) : Type 0 where
   pub count : r .count ≤ xs .count
   pub same : (p : Region → Bool) → anyRegion p r ≡ any (regionPasses p) xs
+
+-- the fault of a region whose header alone has the fault `own`, where `shares` and `overlaps` say what the regions before it tell
+unfoldable pub regionFault : Fault → Bool → Bool → Region → Fault
+regionFault own shares overlaps r =
+    orFault own
+    (refuse shares (fault 26 0)
+    (refuse (eqb (r .size) 0) (fault 27 0)
+    (refuse (endsBeyond (r .gpa) (r .size)) (fault 28 0)
+    (refuse overlaps (fault 29 0)
+    noFault))))
 
 -- what a step at row i answers: the row's fault, and the record with the row's region
 pub record InitializationStepped (arch : Arch) (ps : Rows IgvmPlatformHeader) (xs : Rows IgvmInitializationHeader) (i : ℕ) (f : Fault) (r : RelocRegions) : Type 0 where

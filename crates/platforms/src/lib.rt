@@ -1,13 +1,14 @@
 // Platform headers: refusals 8 to 14, header by header and as a pass over the platform rows.
 ghost use mathlib.Core.Path.{_≡_};
-ghost use mathlib.Core.Bool.{false};
 ghost use Prim.Native.Nat.{ℕ, _+_, _<_, _≤_};
-ghost use Rattle.rows.specs.Rows.{Rows, before, last};
-ghost use Rattle.igvm_defs.specs.Refusals.{isRefusal, firstFault};
-ghost use Rattle.igvm_defs.specs.Platforms.{platformTypeOf};
+ghost use mathlib.Core.Bool.{cond};
+ghost use lib.Dec.{eqb};
+ghost use lib.ListN.{getD};
+ghost use Rattle.rows.specs.Below.{anyBelow};
+ghost use Rattle.rows.specs.Rows.{Rows, before};
 ghost use Rattle.platform_header.specs.declared.IgvmPlatformHeader.{IgvmPlatformHeader};
-ghost use Rattle.platforms.specs.Platforms.{validatePlatform, standsWith, platformFault, lastIsCca};
-ghost use Rattle.platforms.specs.Record.{HoldsPlatforms, PlatformStepped};
+ghost use Rattle.platforms.specs.Platforms.{validatePlatform, standsWith};
+ghost use Rattle.platforms.specs.Record.{HoldsPlatforms, lastTypeIsCca, PlatformStepped};
 use igvm_defs::Arch;
 use igvm_defs::Fault;
 use igvm_defs::PlatformType;
@@ -55,6 +56,16 @@ fn stands_with(arch: Arch, t: PlatformType) -> bool
     }
 }
 
+// Whether the last row with a mask is CCA, after one row more.
+fn cca_after(cca: bool, same: bool, kind: u8) -> bool
+    ensures { λ r. ⌜ r ≡ cond same (eqb kind 6) cca ⌝ }
+{
+    if same {
+        return kind == 6;
+    }
+    cca
+}
+
 // The masks and the types of the platform rows read so far.
 pub struct Platforms {
     pub mask: [u32; 16],
@@ -71,7 +82,11 @@ impl Platforms {
     pub fn new() -> Platforms
         ensures { λ r. ⌜ ((xs : Rows IgvmPlatformHeader) → HoldsPlatforms r (before 0 xs)) ⌝ }
     {
-        Platforms { mask: [0; 16], types: [0; 16], count: 0 }
+        Platforms {
+            mask: [0; 16],
+            types: [0; 16],
+            count: 0,
+        }
     }
 
     fn push(self, mask: u32, kind: u8) -> Platforms
@@ -104,7 +119,7 @@ impl Platforms {
     // The last row with this mask is CCA.
     pub fn last_is_cca(self, mask: u32) -> bool
         requires { ⌜ self .count ≤ 16 ⌝ }
-        ensures { λ r. ⌜ ((xs : Rows IgvmPlatformHeader) → HoldsPlatforms self xs → r ≡ lastIsCca xs mask) ⌝ }
+        ensures { λ r. ⌜ r ≡ lastTypeIsCca self mask ⌝ }
     {
         let n = self.count;
         let mut i = 0;

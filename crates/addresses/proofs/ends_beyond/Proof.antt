@@ -1,3 +1,7 @@
+use Rattle.addresses.specs.Addresses.{endsBeyond}
+use Rattle.rows.proofs.Bools.{ltb-same}
+use Prim.Native.Nat.{_+_, _-_}
+use native.Mathlib.Omega.{arith}
 use borrow.Author.Needs.{needs}
 use Rattle.addresses.proofs.ends_beyond.Statement.{statement}
 use Rattle.addresses.proofs.ends_beyond.Tie as tie
@@ -10,7 +14,8 @@ sub-result c = search needs
 
 -- src/lib.rt:56:1
 returns : tie.Need-returns
-returns c = ?
+unfolding endsBeyond
+returns c = let b = c .args .base in let n = c .args .size in ltb-same (18446744073709551615 - b) n 18446744073709551615 (b + n) (λ h. omega arith) (λ h. omega arith)
 
 pub ends-beyond-spec : {M : Type 1} → statement M
 ends-beyond-spec = tie.close (tie.spec sub-result returns)

@@ -1,3 +1,8 @@
+use Rattle.rows.proofs.Bools.{leb-same}
+use Prim.Native.Nat.{_+_, _-_}
+use borrow.Author.Tests.{lt-leb}
+use mathlib.Core.Path.{sym}
+use native.Mathlib.Omega.{arith}
 use Rattle.addresses.proofs.ends_by.Statement.{statement}
 use Rattle.addresses.proofs.ends_by.Tie as tie
 use Rattle.addresses.proofs.ends_by.Reads as reads
@@ -5,11 +10,11 @@ use Rattle.addresses.proofs.ends_by.Lts as lts
 
 -- src/lib.rt:39:9
 returns : tie.Need-returns
-returns c = ?
+returns c = sym (lt-leb (c .before .args .b + c .before .args .n) (c .before .args .m) (omega arith))
 
 -- src/lib.rt:35:1
 returns-2 : tie.Need-returns-2
-returns-2 c = ?
+returns-2 c = let b = c .before .args .b in let n = c .before .args .n in let m = c .before .args .m in leb-same n (m - b) (b + n) m (λ h. omega arith) (λ h. omega arith)
 
 pub ends-by-spec : {M : Type 1} → statement M
 ends-by-spec = tie.close (tie.spec returns returns-2)
