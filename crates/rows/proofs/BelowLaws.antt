@@ -300,6 +300,11 @@ unfolding sumBelow
 count-none zero p h = refl
 count-none (suc n) p h = rw (count-none n p (λ i l. h i (omega arith)), h n (omega arith))
 
+pub count-all : (n : ℕ) (p : ℕ → Bool) → ((i : ℕ) → i < n → p i ≡ true) → countBelow n p ≡ n
+unfolding sumBelow
+count-all zero p h = refl
+count-all (suc n) p h = rw (count-all n p (λ i l. h i (omega arith)), h n (omega arith)) (omega arith)
+
 pub none-count : (n : ℕ) (p : ℕ → Bool) → countBelow n p ≡ 0 → (i : ℕ) → i < n → p i ≡ false
 none-count n p h i l = is-false (p i) (λ g. let m = count-lt i n p l g in omega arith)
 
