@@ -2,20 +2,60 @@
 use Prim.Native.Nat.{ℕ, _+_, _<_}
 use mathlib.Core.Path.{_≡_}
 use mathlib.Core.List.{List}
+use mathlib.Core.Bool.{Bool, not, _&&_}
+use mathlib.Core.Option.{Option, none, some}
+use lib.Dec.{eqb}
 use lib.ListN.{getD}
 use Rattle.rows.specs.Rows.{Rows, any, before}
 use Rattle.igvm_defs.specs.declared.Arch.{Arch}
 use Rattle.igvm_defs.specs.declared.Fault.{Fault}
 use Rattle.initialization_header.specs.declared.IgvmInitializationHeader.{IgvmInitializationHeader}
 use Rattle.directive_header.specs.declared.IgvmDirectiveHeader.{IgvmDirectiveHeader}
+use Rattle.directive_header.specs.declared.IgvmDirectiveHeader.the-variants.{PageData, ParameterArea, VpCount, EnvironmentInfo, Srat, Madt, Slit, Pptt, MmioRanges, MemoryMap, CommandLine, DeviceTree, RequiredMemory, SnpVpContext, X64NativeVpContext, X64VbsVpContext, AArch64VbsVpContext, AArch64CcaVpContext, ParameterInsert, ErrorRange, SnpIdBlock, VbsMeasurement}
 use Rattle.masks.specs.Masks.{shares}
+use Rattle.initializations.specs.declared.Region.{Region}
 use Rattle.directives.specs.Directives.{directiveFault, isContext}
 
 -- the mask of a VTL shares a bit with a mask exactly where a context of that VTL does
 abbrev pub HoldsContexts : List ℕ → Rows IgvmDirectiveHeader → Type 0
 HoldsContexts contexts xs = (level bits : ℕ) → shares (getD contexts level 0) bits ≡ any (isContext level bits) xs
 
+-- the region's VP index is not 0, or the mask of its VTL shares no bit with its own
+unfoldable pub lacksContext : List ℕ → Region → Bool
+lacksContext contexts r = not (eqb (r .«vp_index») 0 && shares (getD contexts (r .vtl) 0) (r .mask))
+
 -- what a step at row i answers: the row's fault, and the masks with the row's context
 pub record DirectiveStepped (arch : Arch) (is : Rows IgvmInitializationHeader) (xs : Rows IgvmDirectiveHeader) (i : ℕ) (f : Fault) (contexts : List ℕ) : Type 0 where
   pub told : f ≡ directiveFault arch is (before i xs) (xs .row i)
   pub next : HoldsContexts contexts (before (i + 1) xs)
+
+-- ---- the area rule over numbers: how a header names an area (0 allocates, 1 uses, 2 inserts, 3 names none), and which
+
+abbrev pub howOf : IgvmDirectiveHeader → ℕ
+howOf (PageData gpa mask flags type size) = 3
+howOf (ParameterArea bytes area size) = 0
+howOf (VpCount p) = 1
+howOf (EnvironmentInfo p) = 1
+howOf (Srat p) = 1
+howOf (Madt p) = 1
+howOf (Slit p) = 1
+howOf (Pptt p) = 1
+howOf (MmioRanges p) = 1
+howOf (MemoryMap p) = 1
+howOf (CommandLine p) = 1
+howOf (DeviceTree p) = 1
+howOf (RequiredMemory gpa mask bytes protectable) = 3
+howOf (SnpVpContext gpa mask vp vmsa) = 3
+howOf (X64NativeVpContext mask vp context) = 3
+howOf (X64VbsVpContext vtl registers mask) = 3
+howOf (AArch64VbsVpContext vtl registers mask) = 3
+howOf (AArch64CcaVpContext mask vp context) = 3
+howOf (ParameterInsert p) = 2
+howOf (ErrorRange gpa mask bytes) = 3
+howOf (SnpIdBlock mask opaque) = 3
+howOf (VbsMeasurement mask opaque) = 3
+
+-- 0 where the header names no area
+abbrev pub areaNumber : Option ℕ → ℕ
+areaNumber none = 0
+areaNumber (some area) = area

@@ -4,41 +4,19 @@ use mathlib.Core.Bool.{Bool, cond}
 use mathlib.Core.List.{List}
 use lib.Dec.{eqb}
 use Rattle.rows.specs.Rows.{Rows, any, before}
-use Rattle.igvm_defs.specs.declared.Arch.{Arch}
 use Rattle.igvm_defs.specs.declared.Fault.{Fault}
 use Rattle.igvm_defs.specs.declared.Refusal.{Refusal}
-use Rattle.igvm_defs.specs.Refusals.{fault, noFault, noRefusal, refuse, isRefusal, inRow, orElse, firstFault}
-use Rattle.igvm_defs.specs.Revision.{archOf}
-use Rattle.sheet.specs.Head.{Limits, headOf, revisionOf}
-use Rattle.sheet.specs.Table.{headersOf}
+use Rattle.igvm_defs.specs.Refusals.{fault, noFault, refuse, isRefusal, inRow, orElse, firstFault}
+use Rattle.sheet.specs.Head.{Limits, headOf}
 use Rattle.sheet.specs.Read.{sheetRefusal}
-use Rattle.platform_header.specs.declared.IgvmPlatformHeader.{IgvmPlatformHeader}
-use Rattle.initialization_header.specs.declared.IgvmInitializationHeader.{IgvmInitializationHeader}
-use Rattle.directive_header.specs.declared.IgvmDirectiveHeader.{IgvmDirectiveHeader}
-use Rattle.platform_header.specs.PlatformHeader.{platformOf}
-use Rattle.initialization_header.specs.Initializations.{initializationOf}
-use Rattle.directive_header.specs.Directives.{directiveOf}
+use Rattle.headers.specs.Headers.{Headers, sheetHeaders}
 use Rattle.platforms.specs.Platforms.{platformFault}
 use Rattle.initializations.specs.Regions.{regionPasses}
 use Rattle.initializations.specs.Initializations.{initializationFault}
 use Rattle.directives.specs.Directives.{directiveFault, noContext}
+use Rattle.sheet.specs.declared.SheetHead.{SheetHead}
+use Rattle.file.specs.declared.IgvmFile.{IgvmFile}
 use Rattle.file.specs.declared.Verdict.{Verdict}
-
--- the headers of a sheet
-pub record Headers : Type 0 where
-  pub arch : Arch
-  pub platforms : Rows IgvmPlatformHeader
-  pub initializations : Rows IgvmInitializationHeader
-  pub directives : Rows IgvmDirectiveHeader
-
-unfoldable pub sheetHeaders : List ℕ → Headers
-sheetHeaders s =
-    record {
-      arch = archOf (revisionOf (headOf s));
-      platforms = headersOf platformOf s 0 (headOf s .platforms);
-      initializations = headersOf initializationOf s (headOf s .platforms) (headOf s .initializations);
-      directives = headersOf directiveOf s (headOf s .platforms + headOf s .initializations) (headOf s .directives);
-    }
 
 -- ---- the fault of each row, given the headers before it
 
@@ -60,22 +38,40 @@ noPlatform f = refuse (eqb (f .platforms .count) 0) (fault 15 0) noFault
 unfoldable pub noMatchingVpContext : Headers → Fault
 noMatchingVpContext f = refuse (any (regionPasses (noContext (f .directives))) (f .initializations)) (fault 34 0) noFault
 
--- ---- 8 to 34: the platform rows, then 15, the initialization rows, the directive rows, then 34
+-- ---- the lists
+
+-- 8 to 14, then 15
+unfoldable pub platformsRefusal : Headers → Refusal
+platformsRefusal f = orElse (firstFault 0 (f .platforms .count) (platformFaults f)) (inRow 0 (noPlatform f))
+
+-- 16 to 29
+unfoldable pub initializationsRefusal : Headers → Refusal
+initializationsRefusal f = firstFault (f .platforms .count) (f .initializations .count) (initializationFaults f)
+
+-- 21, 22, 24, 30 to 33, then 34
+unfoldable pub directivesRefusal : Headers → Refusal
+directivesRefusal f =
+    orElse (firstFault (f .platforms .count + f .initializations .count) (f .directives .count) (directiveFaults f))
+    (inRow 0 (noMatchingVpContext f))
+
 unfoldable pub headersRefusal : Headers → Refusal
-headersRefusal f =
-    orElse (firstFault 0 (f .platforms .count) (platformFaults f))
-    (orElse (inRow 0 (noPlatform f))
-    (orElse (firstFault (f .platforms .count) (f .initializations .count) (initializationFaults f))
-    (orElse (firstFault (f .platforms .count + f .initializations .count) (f .directives .count) (directiveFaults f))
-    (inRow 0 (noMatchingVpContext f)))))
+headersRefusal f = orElse (platformsRefusal f) (orElse (initializationsRefusal f) (directivesRefusal f))
 
 -- 1 to 34
 unfoldable pub verdictRefusal : Limits → List ℕ → Refusal
 verdictRefusal l s = orElse (sheetRefusal l s) (headersRefusal (sheetHeaders s))
 
--- the row counts of the three lists where nothing is refused; a refusal has 0 in each
+-- the row counts of the three lists
+abbrev pub fileOf : SheetHead → IgvmFile
+fileOf h = record { «platform_headers» = h .platforms; «initialization_headers» = h .initializations; «directive_headers» = h .directives }
+
+abbrev pub noFile : IgvmFile
+noFile = record { «platform_headers» = 0; «initialization_headers» = 0; «directive_headers» = 0 }
+
+-- the answer: the refusal, and the row counts of an accepted file; a refused one has 0 in each
 unfoldable pub verdictOf : Limits → List ℕ → Verdict
 verdictOf l s =
-    cond (isRefusal (verdictRefusal l s))
-    (record { refusal = verdictRefusal l s; platforms = 0; initializations = 0; directives = 0 })
-    (record { refusal = noRefusal; platforms = headOf s .platforms; initializations = headOf s .initializations; directives = headOf s .directives })
+    record {
+      refusal = verdictRefusal l s;
+      file = cond (isRefusal (verdictRefusal l s)) noFile (fileOf (headOf s));
+    }

@@ -1,2 +1,2 @@
 pub mod File
-pub mod Acceptance
+pub mod Passes

@@ -1,0 +1,267 @@
+// Directive headers: refusals 21, 22, 24 and 30 to 33 header by header, the contexts' masks, and 34.
+ghost use mathlib.Core.Path.{_≡_};
+ghost use mathlib.Core.List.{List};
+ghost use Prim.Native.Nat.{ℕ, _+_, _<_, _≤_};
+ghost use Rattle.rows.specs.Rows.{Rows, before};
+ghost use Rattle.initialization_header.specs.declared.IgvmInitializationHeader.{IgvmInitializationHeader};
+ghost use Rattle.directive_header.specs.declared.IgvmDirectiveHeader.{IgvmDirectiveHeader};
+ghost use Rattle.directive_header.specs.Fields.{areaOf};
+ghost use Rattle.initializations.specs.Record.{anyRegion, HoldsRegions};
+ghost use Rattle.directives.specs.Directives.{validateDirective, wrongArch, badArea, insideTable};
+ghost use Rattle.directives.specs.Record.{HoldsContexts, lacksContext, howOf, areaNumber, DirectiveStepped};
+use directive_header::IgvmDirectiveHeader;
+use igvm_defs::Arch;
+use igvm_defs::Fault;
+use igvm_defs::Vtl;
+use initializations::Region;
+use initializations::RelocRegions;
+
+// 21 alone.
+fn gpa_fault(gpa: u64) -> Fault
+    ensures { λ r. ⌜ r ≡ refuse (not (onPage gpa)) (fault 21 gpa) noFault ⌝ }
+{
+    igvm_defs::refuse(!addresses::on_page(gpa), 21, gpa, Fault::NONE)
+}
+
+fn page_data_fault(gpa: u64, data_type: u16, data: usize) -> Fault
+    ensures { λ r. ⌜ r ≡ refuse (not (onPage gpa)) (fault 21 gpa) (refuse (ltb 3 «data_type») (fault 30 0) (refuse (ltb 4096 «data») (fault 31 0) noFault)) ⌝ }
+{
+    igvm_defs::refuse(
+        !addresses::on_page(gpa),
+        21,
+        gpa,
+        igvm_defs::refuse(
+            3 < data_type,
+            30,
+            0,
+            igvm_defs::refuse(4096 < data, 31, 0, Fault::NONE),
+        ),
+    )
+}
+
+fn parameter_area_fault(bytes: u64, data: usize) -> Fault
+    ensures { λ r. ⌜ r ≡ refuse (not (onPage bytes)) (fault 22 bytes) (refuse (ltb bytes «data») (fault 31 0) noFault) ⌝ }
+{
+    igvm_defs::refuse(
+        !addresses::on_page(bytes),
+        22,
+        bytes,
+        igvm_defs::refuse(bytes < data as u64, 31, 0, Fault::NONE),
+    )
+}
+
+fn required_memory_fault(gpa: u64, bytes: u32) -> Fault
+    ensures { λ r. ⌜ r ≡ refuse (not (onPage gpa)) (fault 21 gpa) (refuse (not (onPage bytes)) (fault 22 bytes) noFault) ⌝ }
+{
+    igvm_defs::refuse(
+        !addresses::on_page(gpa),
+        21,
+        gpa,
+        igvm_defs::refuse(
+            !addresses::on_page(bytes as u64),
+            22,
+            bytes as u64,
+            Fault::NONE,
+        ),
+    )
+}
+
+// The header alone: 21, 30, 22, 31.
+pub fn validate(h: IgvmDirectiveHeader) -> Fault
+    ensures { λ r. ⌜ r ≡ validateDirective h ⌝ }
+{
+    match h {
+        IgvmDirectiveHeader::PageData {
+            gpa,
+            data_type,
+            data,
+            ..
+        } => page_data_fault(gpa, data_type, data),
+        IgvmDirectiveHeader::ParameterArea {
+            number_of_bytes,
+            initial_data,
+            ..
+        } => parameter_area_fault(number_of_bytes, initial_data),
+        IgvmDirectiveHeader::RequiredMemory {
+            gpa,
+            number_of_bytes,
+            ..
+        } => required_memory_fault(gpa, number_of_bytes),
+        IgvmDirectiveHeader::SnpVpContext { gpa, .. } => gpa_fault(gpa),
+        IgvmDirectiveHeader::ParameterInsert(p) => gpa_fault(p.gpa),
+        IgvmDirectiveHeader::ErrorRange { gpa, .. } => gpa_fault(gpa),
+        _ => Fault::NONE,
+    }
+}
+
+// 24: a VP context against the architecture, with its kind.
+fn arch_fault(arch: Arch, h: IgvmDirectiveHeader, later: Fault) -> Fault
+    ensures { λ r. ⌜ r ≡ refuse (wrongArch arch h) (fault 24 (kindNumber h)) later ⌝ }
+{
+    match h {
+        IgvmDirectiveHeader::X64NativeVpContext { .. } => igvm_defs::refuse(
+            !arch.is_x64(),
+            24,
+            46,
+            later,
+        ),
+        IgvmDirectiveHeader::X64VbsVpContext { .. } => igvm_defs::refuse(
+            !arch.is_x64(),
+            24,
+            47,
+            later,
+        ),
+        IgvmDirectiveHeader::AArch64VbsVpContext { .. } => igvm_defs::refuse(
+            !arch.is_aarch64(),
+            24,
+            48,
+            later,
+        ),
+        IgvmDirectiveHeader::AArch64CcaVpContext { .. } => igvm_defs::refuse(
+            !arch.is_aarch64(),
+            24,
+            49,
+            later,
+        ),
+        _ => later,
+    }
+}
+
+// ---- contexts: a mask for each VTL, of the VBS contexts read so far
+
+fn with_context(contexts: [u32; 3], vtl: Vtl, mask: u32) -> [u32; 3]
+    ensures { λ r. ⌜ r ≡ set contexts (vtlNumber vtl) (bitOr (getD contexts (vtlNumber vtl) 0) mask) ⌝ }
+{
+    let v = vtl.code() as usize;
+    let mut next = contexts;
+    next[v] = next[v] | mask;
+    next
+}
+
+fn contexts_after(contexts: [u32; 3], h: IgvmDirectiveHeader) -> [u32; 3]
+    ensures { λ r. ⌜ ((xs : Rows IgvmDirectiveHeader) (i : ℕ) → h ≡ xs .row i → HoldsContexts contexts (before i xs) → HoldsContexts r (before (i + 1) xs)) ⌝ }
+{
+    match h {
+        IgvmDirectiveHeader::X64VbsVpContext {
+            vtl,
+            compatibility_mask,
+            ..
+        } => with_context(contexts, vtl, compatibility_mask),
+        IgvmDirectiveHeader::AArch64VbsVpContext {
+            vtl,
+            compatibility_mask,
+            ..
+        } => with_context(contexts, vtl, compatibility_mask),
+        _ => contexts,
+    }
+}
+
+fn mask_of_vtl(contexts: [u32; 3], vtl: u8) -> u32
+    ensures { λ r. ⌜ r ≡ getD contexts vtl 0 ⌝ }
+{
+    if vtl < 3 {
+        let v = vtl as usize;
+        return contexts[v];
+    }
+    0
+}
+
+fn lacks_context(contexts: [u32; 3], r: Region) -> bool
+    ensures { λ s. ⌜ s ≡ lacksContext contexts r ⌝ }
+{
+    !((r.vp_index == 0) & masks::shares(mask_of_vtl(contexts, r.vtl), r.mask))
+}
+
+// 34: some region has a VP index other than 0, or no context.
+pub fn no_matching_vp_context(regions: RelocRegions, contexts: [u32; 3]) -> bool
+    requires { ⌜ regions .count ≤ 64 ⌝ }
+    ensures { λ r. ⌜ r ≡ anyRegion (lacksContext contexts) regions ⌝ }
+{
+    let n = regions.count;
+    let mut i = 0;
+    let mut found = false;
+    while i < n {
+        found = found | lacks_context(contexts, regions.entry(i));
+        i += 1;
+    }
+    found
+}
+
+// 33: an insert at an address in a page table, under a shared bit.
+pub fn inside_table(regions: RelocRegions, h: IgvmDirectiveHeader) -> bool
+    requires { ⌜ regions .count ≤ 64 ⌝ }
+    ensures { λ r. ⌜ ((xs : Rows IgvmInitializationHeader) → HoldsRegions regions xs → r ≡ insideTable xs h) ⌝ }
+{
+    match h {
+        IgvmDirectiveHeader::ParameterInsert(p) => regions.any_table_holds(
+            p.compatibility_mask,
+            p.gpa,
+        ),
+        _ => false,
+    }
+}
+
+// ---- areas: how a header names an area (0 allocates, 1 uses, 2 inserts, 3 names none), and which
+
+pub struct Naming {
+    pub how: u8,
+    pub area: u32,
+}
+
+pub fn naming(h: IgvmDirectiveHeader) -> Naming
+    ensures { λ r. ⌜ (r .how ≡ howOf h) × (r .area ≡ areaNumber (areaOf h)) ⌝ }
+{
+    match h {
+        IgvmDirectiveHeader::ParameterArea {
+            parameter_area_index,
+            ..
+        } => Naming {
+            how: 0,
+            area: parameter_area_index,
+        },
+        IgvmDirectiveHeader::VpCount(p)
+        | IgvmDirectiveHeader::EnvironmentInfo(p)
+        | IgvmDirectiveHeader::Srat(p)
+        | IgvmDirectiveHeader::Madt(p)
+        | IgvmDirectiveHeader::Slit(p)
+        | IgvmDirectiveHeader::Pptt(p)
+        | IgvmDirectiveHeader::MmioRanges(p)
+        | IgvmDirectiveHeader::MemoryMap(p)
+        | IgvmDirectiveHeader::CommandLine(p)
+        | IgvmDirectiveHeader::DeviceTree(p) => Naming {
+            how: 1,
+            area: p.parameter_area_index,
+        },
+        IgvmDirectiveHeader::ParameterInsert(p) => Naming {
+            how: 2,
+            area: p.parameter_area_index,
+        },
+        _ => Naming { how: 3, area: 0 },
+    }
+}
+
+// ---- one row more
+
+pub struct DirectiveStep {
+    pub contexts: [u32; 3],
+    pub fault: Fault,
+}
+
+// The row's fault, and the contexts' masks with the row. The rows before it tell whether its area is bad; the regions, whether it inserts into a page table.
+pub fn step(
+    contexts: [u32; 3],
+    arch: Arch,
+    bad: bool,
+    inside: bool,
+    h: IgvmDirectiveHeader,
+) -> DirectiveStep
+    ensures { λ r. ⌜ ((is : Rows IgvmInitializationHeader) (xs : Rows IgvmDirectiveHeader) (i : ℕ) → h ≡ xs .row i → bad ≡ badArea (before i xs) h → inside ≡ insideTable is h → HoldsContexts contexts (before i xs) → DirectiveStepped arch is xs i (r .fault) (r .contexts)) ⌝ }
+{
+    let later = igvm_defs::refuse(bad, 32, 0, igvm_defs::refuse(inside, 33, 0, Fault::NONE));
+    let fault = igvm_defs::or_fault(validate(h), arch_fault(arch, h, later));
+    let next = contexts_after(contexts, h);
+    DirectiveStep {
+        contexts: next,
+        fault,
+    }
+}

@@ -1,0 +1,224 @@
+// The verdict: the passes over platform, initialization and directive rows, and IgvmFile::new, from any byte string.
+ghost use mathlib.Core.Path.{_≡_};
+ghost use Prim.Native.Nat.{ℕ, _+_, _≤_, _<_};
+ghost use lib.ListN.{length, getD};
+ghost use Rattle.directive_header.specs.Fields.{areaOf};
+ghost use Rattle.sheet.specs.Head.{limits, headOf};
+ghost use Rattle.sheet.specs.Read.{Readable};
+ghost use Rattle.sheet.specs.Walk.{cursorAt};
+ghost use Rattle.headers.specs.Headers.{sheetHeaders};
+ghost use Rattle.areas.specs.Areas.{firstBad};
+ghost use Rattle.platforms.specs.Record.{HoldsPlatforms};
+ghost use Rattle.initializations.specs.Record.{HoldsRegions};
+ghost use Rattle.directives.specs.Record.{howOf, areaNumber};
+ghost use Rattle.file.specs.File.{directivesRefusal, verdictOf, firstBadArea};
+ghost use Rattle.file.specs.Passes.{PlatformsPassed, InitializationsPassed};
+use igvm_defs::Fault;
+use igvm_defs::Refusal;
+use initializations::RelocRegions;
+use platforms::Platforms;
+use sheet::Cursor;
+use sheet::SheetHead;
+
+// ---- the passes, over a readable sheet
+
+pub struct PlatformsPass {
+    pub refusal: Refusal,
+    pub platforms: Platforms,
+}
+
+// 8 to 14 of each platform row, then 15.
+fn validate_platform_headers(s: &[u8], head: SheetHead) -> PlatformsPass
+    requires { ⌜ Readable limits (now s) × (head ≡ headOf (now s)) ⌝ }
+    ensures { λ r. ⌜ PlatformsPassed (now (s .entry)) (r .refusal) (r .platforms) ⌝ }
+{
+    let n = head.platforms as usize;
+    let arch = head.revision().arch();
+    let mut c = Cursor::new(head.rows());
+    let mut platforms = Platforms::new();
+    let mut i = 0;
+    while i < n {
+        let step = platforms.step(arch, headers::platform_at(s, c));
+        let fault = step.fault;
+        let next = step.platforms;
+        platforms = next;
+        if fault.is_fault() {
+            return PlatformsPass {
+                refusal: fault.in_row((i + 1) as u64),
+                platforms,
+            };
+        }
+        c = c.next(s);
+        i += 1;
+    }
+    let refusal = igvm_defs::refuse(n == 0, 15, 0, Fault::NONE).in_row(0);
+    PlatformsPass { refusal, platforms }
+}
+
+pub struct InitializationsPass {
+    pub refusal: Refusal,
+    pub regions: RelocRegions,
+}
+
+// 16 to 29 of each initialization row.
+fn validate_initialization_headers(
+    s: &[u8],
+    head: SheetHead,
+    platforms: Platforms,
+) -> InitializationsPass
+    requires { ⌜ Readable limits (now s) × (head ≡ headOf (now s)) × HoldsPlatforms platforms (sheetHeaders (now s) .platforms) ⌝ }
+    ensures { λ r. ⌜ InitializationsPassed (now (s .entry)) (r .refusal) (r .regions) ⌝ }
+{
+    let first = head.platforms as usize;
+    let n = head.initializations as usize;
+    let arch = head.revision().arch();
+    let mut c = sheet::cursor_at(s, first);
+    let mut regions = RelocRegions::new();
+    let mut i = 0;
+    while i < n {
+        let step = regions.step(arch, platforms, headers::initialization_at(s, c));
+        let fault = step.fault;
+        let next = step.regions;
+        regions = next;
+        if fault.is_fault() {
+            return InitializationsPass {
+                refusal: fault.in_row((first + i + 1) as u64),
+                regions,
+            };
+        }
+        c = c.next(s);
+        i += 1;
+    }
+    InitializationsPass {
+        refusal: Refusal::NONE,
+        regions,
+    }
+}
+
+// How each directive row names an area, and which.
+fn fill_areas(s: &[u8], head: SheetHead, area: &mut [u32], how: &mut [u8])
+    requires { ⌜ Readable limits (now s) × (head ≡ headOf (now s)) × (length (now area) ≡ headOf (now s) .directives) × (length (now how) ≡ headOf (now s) .directives) ⌝ }
+    ensures { λ _. ⌜ (length (now (area .exit)) ≡ headOf (now (s .entry)) .directives) × (length (now (how .exit)) ≡ headOf (now (s .entry)) .directives) ⌝ }
+    ensures { λ _. ⌜ ((j : ℕ) → j < headOf (now (s .entry)) .directives → (getD (now (area .exit)) j 0 ≡ areaNumber (areaOf (sheetHeaders (now (s .entry)) .directives .row j))) × (getD (now (how .exit)) j 0 ≡ howOf (sheetHeaders (now (s .entry)) .directives .row j))) ⌝ }
+{
+    let n = head.directives as usize;
+    let mut c = sheet::cursor_at(
+        s,
+        (head.platforms as usize) + (head.initializations as usize),
+    );
+    let mut i = 0;
+    while i < n {
+        let named = directives::naming(headers::directive_at(s, c));
+        area[i] = named.area;
+        how[i] = named.how;
+        c = c.next(s);
+        i += 1;
+    }
+}
+
+// The first directive row, from 0, whose area is bad by the rows before it, or the number of rows.
+fn first_bad_area(s: &[u8], head: SheetHead) -> usize
+    requires { ⌜ Readable limits (now s) × (head ≡ headOf (now s)) ⌝ }
+    ensures { λ r. ⌜ r ≡ firstBadArea (sheetHeaders (now (s .entry)) .directives) ⌝ }
+{
+    let n = head.directives as usize;
+    let mut area: [u32; 1024] = [0; 1024];
+    let mut how: [u8; 1024] = [0; 1024];
+    fill_areas(s, head, &mut area[..n], &mut how[..n]);
+    areas::first_bad(&area[..n], &how[..n])
+}
+
+// 21, 22, 24 and 30 to 33 of each directive row, then 34.
+fn validate_directive_headers(s: &[u8], head: SheetHead, regions: RelocRegions) -> Refusal
+    requires { ⌜ Readable limits (now s) × (head ≡ headOf (now s)) × HoldsRegions regions (sheetHeaders (now s) .initializations) ⌝ }
+    ensures { λ r. ⌜ r ≡ directivesRefusal (sheetHeaders (now (s .entry))) ⌝ }
+{
+    let first = (head.platforms as usize) + (head.initializations as usize);
+    let n = head.directives as usize;
+    let arch = head.revision().arch();
+    let bad = first_bad_area(s, head);
+    let mut c = sheet::cursor_at(s, first);
+    let mut contexts: [u32; 3] = [0; 3];
+    let mut i = 0;
+    while i < n {
+        let h = headers::directive_at(s, c);
+        let inside = directives::inside_table(regions, h);
+        let step = directives::step(contexts, arch, i == bad, inside, h);
+        let fault = step.fault;
+        let next = step.contexts;
+        contexts = next;
+        if fault.is_fault() {
+            return fault.in_row((first + i + 1) as u64);
+        }
+        c = c.next(s);
+        i += 1;
+    }
+    igvm_defs::refuse(
+        directives::no_matching_vp_context(regions, contexts),
+        34,
+        0,
+        Fault::NONE,
+    ).in_row(0)
+}
+
+// ---- the verdict
+
+// How many headers each list of an accepted file has; all 0 where the file is refused.
+pub struct IgvmFile {
+    pub platform_headers: u64,
+    pub initialization_headers: u64,
+    pub directive_headers: u64,
+}
+
+pub struct Verdict {
+    pub refusal: Refusal,
+    pub file: IgvmFile,
+}
+
+const NO_FILE: IgvmFile = IgvmFile {
+    platform_headers: 0,
+    initialization_headers: 0,
+    directive_headers: 0,
+};
+
+fn refused(refusal: Refusal) -> Verdict
+    ensures { λ r. ⌜ r ≡ record { refusal = refusal; file = noFile } ⌝ }
+{
+    Verdict {
+        refusal,
+        file: NO_FILE,
+    }
+}
+
+impl IgvmFile {
+    // Accepted, or the first refusal of 1 to 34.
+    pub fn new(s: &[u8]) -> Verdict
+        ensures { λ r. ⌜ r ≡ verdictOf limits (now (s .entry)) ⌝ }
+    {
+        let read = sheet::read(s);
+        if read.is_refusal() {
+            return refused(read);
+        }
+        let head = SheetHead::new(s);
+        let platforms = validate_platform_headers(s, head);
+        if platforms.refusal.is_refusal() {
+            return refused(platforms.refusal);
+        }
+        let initializations = validate_initialization_headers(s, head, platforms.platforms);
+        if initializations.refusal.is_refusal() {
+            return refused(initializations.refusal);
+        }
+        let directives = validate_directive_headers(s, head, initializations.regions);
+        if directives.is_refusal() {
+            return refused(directives);
+        }
+        Verdict {
+            refusal: Refusal::NONE,
+            file: IgvmFile {
+                platform_headers: head.platforms as u64,
+                initialization_headers: head.initializations as u64,
+                directive_headers: head.directives as u64,
+            },
+        }
+    }
+}
