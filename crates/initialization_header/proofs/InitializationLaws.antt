@@ -1,12 +1,10 @@
 -- Laws of initialization headers.
 -- Assumes nothing.
 use mathlib.Core.Path.{_≡_, refl}
-use mathlib.Core.Bool.{Bool, false, not}
+use mathlib.Core.Bool.{false, not}
 use mathlib.Core.List.{List}
 use Prim.Native.Nat.{ℕ, _+_}
-use native.Mathlib.Omega.{arith}
 use lib.Dec.{T, eqb}
-use borrow.Author.Tests.{ne-eqb}
 use mir.Val.{hasKey}
 use types.Run.{OneOf}
 use denote.Enum.Declared.{tagOf}
@@ -14,11 +12,11 @@ use Rattle.le.proofs.LeLaws.{le-read, byte-read}
 use Rattle.igvm_defs.specs.Kinds.{initializationList, kindOf, spans, fields}
 use Rattle.igvm_defs.proofs.KindLaws.{Local, LocalAt, initialization-kind}
 use Rattle.igvm_defs.proofs.Runs.{each, _⨾_}
-use Rattle.igvm_defs.proofs.Tags.{not-key}
+use Rattle.igvm_defs.proofs.Tags.{not-number}
 use Rattle.initialization_header.specs.declared.IgvmInitializationHeader.{IgvmInitializationHeader}
 use Rattle.initialization_header.specs.declared.IgvmInitializationHeader.the-variants.{GuestPolicy, CcaPolicy, RelocatableRegion, PageTableRelocationRegion}
 use Rattle.initialization_header.specs.Initializations.{initializationOf}
-use Rattle.initialization_header.specs.Fields.{kindNumber, maskOf}
+use Rattle.initialization_header.specs.Fields.{kindNumber}
 use Rattle.initialization_header.proofs.IgvmInitializationHeader.{the-type}
 
 -- a header says no more than the kind, the body's length and its fields
@@ -49,7 +47,6 @@ kind-tag (CcaPolicy a b c) = refl
 kind-tag (RelocatableRegion a b c d e f g h i j k) = refl
 kind-tag (PageTableRelocationRegion a b c d e f) = refl
 
--- the test of a kind that no variant of an arm has
+-- the test of a kind whose variant is not among those of an arm; k is the variant's place
 pub not-kind : (ks : List ℕ) (h : IgvmInitializationHeader) (k : ℕ) → T (not (hasKey ks k)) → OneOf ks (tagOf the-type h) → eqb (kindNumber h) (16 + k) ≡ false
-not-kind ks h k t o =
-    ne-eqb (kindNumber h) (16 + k) (λ e. not-key ks (tagOf the-type h) k t o (let l : kindNumber h ≡ 16 + tagOf the-type h = kind-tag h in omega arith))
+not-kind ks h k t o = rw (kind-tag h) (not-number 16 ks (tagOf the-type h) k t o)
