@@ -13,8 +13,8 @@ use Rattle.initialization_header.specs.declared.IgvmInitializationHeader.{IgvmI
 use Rattle.directive_header.specs.declared.IgvmDirectiveHeader.{IgvmDirectiveHeader}
 use Rattle.directive_header.specs.declared.IgvmDirectiveHeader.the-variants.{PageData, ParameterArea, VpCount, EnvironmentInfo, Srat, Madt, Slit, Pptt, MmioRanges, MemoryMap, CommandLine, DeviceTree, RequiredMemory, SnpVpContext, X64NativeVpContext, X64VbsVpContext, AArch64VbsVpContext, AArch64CcaVpContext, ParameterInsert, ErrorRange, SnpIdBlock, VbsMeasurement}
 use Rattle.masks.specs.Masks.{shares}
-use Rattle.initializations.specs.declared.Region.{Region}
-use Rattle.directives.specs.Directives.{directiveFault, isContext}
+use Rattle.rules.specs.declared.Region.{Region}
+use Rattle.rules.specs.Directives.{directiveFault, isContext}
 
 -- the mask of a VTL shares a bit with a mask exactly where a context of that VTL does
 abbrev pub HoldsContexts : List ℕ → Rows IgvmDirectiveHeader → Type 0

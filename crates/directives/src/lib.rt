@@ -7,14 +7,14 @@ ghost use Rattle.initialization_header.specs.declared.IgvmInitializationHeader.
 ghost use Rattle.directive_header.specs.declared.IgvmDirectiveHeader.{IgvmDirectiveHeader};
 ghost use Rattle.directive_header.specs.Fields.{areaOf};
 ghost use Rattle.initializations.specs.Record.{anyRegion, HoldsRegions};
-ghost use Rattle.directives.specs.Directives.{validateDirective, wrongArch, badArea, insideTable};
+ghost use Rattle.rules.specs.Directives.{validateDirective, wrongArch, badArea, insideTable};
 ghost use Rattle.directives.specs.Record.{HoldsContexts, lacksContext, howOf, areaNumber, DirectiveStepped};
 use directive_header::IgvmDirectiveHeader;
 use igvm_defs::Arch;
 use igvm_defs::Fault;
 use igvm_defs::Vtl;
-use initializations::Region;
 use initializations::RelocRegions;
+use rules::Region;
 
 // 21 alone.
 fn gpa_fault(gpa: u64) -> Fault

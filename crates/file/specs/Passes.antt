@@ -10,7 +10,7 @@ use Rattle.platforms.specs.declared.Platforms.{Platforms}
 use Rattle.platforms.specs.Record.{HoldsPlatforms}
 use Rattle.initializations.specs.declared.RelocRegions.{RelocRegions}
 use Rattle.initializations.specs.Record.{HoldsRegions}
-use Rattle.file.specs.File.{platformsRefusal, initializationsRefusal}
+use Rattle.rules.specs.Verdict.{platformsRefusal, initializationsRefusal}
 
 -- the platform rows' refusal; where there is none, the record holds the platform rows
 pub record PlatformsPassed (s : List ℕ) (refusal : Refusal) (r : Platforms) : Type 0 where

@@ -1,23 +1,13 @@
 -- The headers of a sheet: its architecture and its three lists.
 use Prim.Native.Nat.{ℕ, _+_}
 use mathlib.Core.List.{List}
-use Rattle.rows.specs.Rows.{Rows}
-use Rattle.igvm_defs.specs.declared.Arch.{Arch}
 use Rattle.igvm_defs.specs.Revision.{archOf}
 use Rattle.sheet.specs.Head.{headOf, revisionOf}
 use Rattle.sheet.specs.Table.{headersOf}
-use Rattle.platform_header.specs.declared.IgvmPlatformHeader.{IgvmPlatformHeader}
-use Rattle.initialization_header.specs.declared.IgvmInitializationHeader.{IgvmInitializationHeader}
-use Rattle.directive_header.specs.declared.IgvmDirectiveHeader.{IgvmDirectiveHeader}
+use Rattle.rules.specs.Verdict.{Headers}
 use Rattle.platform_header.specs.Platforms.{platformOf}
 use Rattle.initialization_header.specs.Initializations.{initializationOf}
 use Rattle.directive_header.specs.Directives.{directiveOf}
-
-pub record Headers : Type 0 where
-  pub arch : Arch
-  pub platforms : Rows IgvmPlatformHeader
-  pub initializations : Rows IgvmInitializationHeader
-  pub directives : Rows IgvmDirectiveHeader
 
 unfoldable pub sheetHeaders : List ℕ → Headers
 sheetHeaders s =

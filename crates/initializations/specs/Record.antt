@@ -12,10 +12,10 @@ use Rattle.igvm_defs.specs.Refusals.{fault, noFault, refuse, orFault}
 use Rattle.addresses.specs.Addresses.{endsBeyond}
 use Rattle.platform_header.specs.declared.IgvmPlatformHeader.{IgvmPlatformHeader}
 use Rattle.initialization_header.specs.declared.IgvmInitializationHeader.{IgvmInitializationHeader}
-use Rattle.initializations.specs.declared.Region.{Region}
+use Rattle.rules.specs.declared.Region.{Region}
 use Rattle.initializations.specs.declared.RelocRegions.{RelocRegions}
-use Rattle.initializations.specs.Regions.{regionPasses}
-use Rattle.initializations.specs.Initializations.{initializationFault}
+use Rattle.rules.specs.Regions.{regionPasses}
+use Rattle.rules.specs.Initializations.{initializationFault}
 
 -- region i of the record
 abbrev pub entry : RelocRegions → ℕ → Region

@@ -8,13 +8,14 @@ ghost use Rattle.initialization_header.specs.declared.IgvmInitializationHeader.
 ghost use Rattle.igvm_defs.specs.Refusals.{noFault};
 ghost use Rattle.masks.specs.Masks.{individualMasks, firstMask};
 ghost use Rattle.platforms.specs.Record.{HoldsPlatforms, lastTypeIsCca};
-ghost use Rattle.initializations.specs.Regions.{tablesShare, overlap, tableHolds};
-ghost use Rattle.initializations.specs.Initializations.{validateRegion, validateTable, validateInitialization, refuseBit};
+ghost use Rattle.rules.specs.Regions.{tablesShare, overlap, tableHolds};
+ghost use Rattle.rules.specs.Initializations.{validateRegion, validateTable, validateInitialization, refuseBit};
 ghost use Rattle.initializations.specs.Record.{entry, anyRegion, Pushed, regionFault, HoldsRegions, InitializationStepped};
 use igvm_defs::Arch;
 use igvm_defs::Fault;
 use initialization_header::IgvmInitializationHeader;
 use platforms::Platforms;
+use rules::Region;
 
 // 17, 18, 19 and 20: a relocatable region alone.
 fn validate_region(alignment: u64, gpa: u64, size: u64, minimum: u64, maximum: u64) -> Fault
@@ -119,16 +120,6 @@ pub fn validate(h: IgvmInitializationHeader) -> Fault
 }
 
 // ---- regions
-
-// A region of either kind: what it covers, and for whom.
-pub struct Region {
-    pub mask: u32,
-    pub gpa: u64,
-    pub size: u64,
-    pub vp_index: u16,
-    pub vtl: u8,
-    pub page_table: bool,
-}
 
 // The regions read so far: the first `count` of each array.
 pub struct RelocRegions {

@@ -11,7 +11,7 @@ use Rattle.igvm_defs.specs.declared.Arch.{Arch}
 use Rattle.igvm_defs.specs.declared.Fault.{Fault}
 use Rattle.platform_header.specs.declared.IgvmPlatformHeader.{IgvmPlatformHeader}
 use Rattle.platforms.specs.declared.Platforms.{Platforms}
-use Rattle.platforms.specs.Platforms.{platformFault}
+use Rattle.rules.specs.Platforms.{platformFault}
 
 -- the record holds the masks and the types of the rows, in their order
 pub record HoldsPlatforms (r : Platforms) (xs : Rows IgvmPlatformHeader) : Type 0 where

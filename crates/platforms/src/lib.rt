@@ -7,7 +7,7 @@ ghost use lib.ListN.{getD};
 ghost use Rattle.rows.specs.Below.{anyBelow};
 ghost use Rattle.rows.specs.Rows.{Rows, before};
 ghost use Rattle.platform_header.specs.declared.IgvmPlatformHeader.{IgvmPlatformHeader};
-ghost use Rattle.platforms.specs.Platforms.{validatePlatform, standsWith};
+ghost use Rattle.rules.specs.Platforms.{validatePlatform, standsWith};
 ghost use Rattle.platforms.specs.Record.{HoldsPlatforms, lastTypeIsCca, PlatformStepped};
 use igvm_defs::Arch;
 use igvm_defs::Fault;

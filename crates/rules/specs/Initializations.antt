@@ -8,14 +8,14 @@ use Rattle.igvm_defs.specs.declared.Arch.{Arch}
 use Rattle.igvm_defs.specs.declared.Fault.{Fault}
 use Rattle.igvm_defs.specs.Refusals.{fault, noFault, refuse, orFault}
 use Rattle.igvm_defs.specs.Revision.{isAArch64}
-use Rattle.platforms.specs.Platforms.{lastIsCca}
+use Rattle.rules.specs.Platforms.{lastIsCca}
 use Rattle.platform_header.specs.declared.IgvmPlatformHeader.{IgvmPlatformHeader}
 use Rattle.initialization_header.specs.declared.IgvmInitializationHeader.{IgvmInitializationHeader}
 use Rattle.initialization_header.specs.declared.IgvmInitializationHeader.the-variants.{GuestPolicy, CcaPolicy, RelocatableRegion, PageTableRelocationRegion}
 use Rattle.masks.specs.Masks.{shares, individualMasks, firstMask}
 use Rattle.addresses.specs.Addresses.{isMultiple, onPage, endsBeyond}
-use Rattle.initializations.specs.declared.Region.{Region}
-use Rattle.initializations.specs.Regions.{regionPasses, tablesShare, overlap}
+use Rattle.rules.specs.declared.Region.{Region}
+use Rattle.rules.specs.Regions.{regionPasses, tablesShare, overlap}
 
 -- kind 18 alone: 17, 18, 19, 20
 unfoldable pub validateRegion : ℕ → ℕ → ℕ → ℕ → ℕ → Fault

@@ -16,8 +16,8 @@ use Rattle.directive_header.specs.declared.IgvmDirectiveHeader.the-variants.{Pa
 use Rattle.directive_header.specs.Fields.{kindNumber, areaOf}
 use Rattle.masks.specs.Masks.{shares}
 use Rattle.addresses.specs.Addresses.{onPage}
-use Rattle.initializations.specs.declared.Region.{Region}
-use Rattle.initializations.specs.Regions.{regionPasses, tableHolds}
+use Rattle.rules.specs.declared.Region.{Region}
+use Rattle.rules.specs.Regions.{regionPasses, tableHolds}
 
 -- the header alone: 21, 30, 22, 31
 abbrev pub validateDirective : IgvmDirectiveHeader → Fault

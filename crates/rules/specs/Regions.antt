@@ -7,7 +7,7 @@ use Rattle.initialization_header.specs.declared.IgvmInitializationHeader.{IgvmI
 use Rattle.initialization_header.specs.declared.IgvmInitializationHeader.the-variants.{GuestPolicy, CcaPolicy, RelocatableRegion, PageTableRelocationRegion}
 use Rattle.masks.specs.Masks.{shares}
 use Rattle.addresses.specs.Addresses.{contains, meets}
-use Rattle.initializations.specs.declared.Region.{Region}
+use Rattle.rules.specs.declared.Region.{Region}
 
 -- the region of a header, where it has one
 abbrev pub regionOf : IgvmInitializationHeader → Option Region
