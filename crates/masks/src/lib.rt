@@ -1,6 +1,10 @@
 // Compatibility masks: shared bits, one-bit masks, and the set bits of a mask.
 ghost use mathlib.Core.Path.{_≡_};
-ghost use Rattle.masks.specs.Masks.{shares, matches, isOneBit};
+ghost use mathlib.Core.Bool.{cond};
+ghost use mathlib.Core.List.{[], _∷_, _++_};
+ghost use Prim.Native.Nat.{_+_, _≤_, _<_};
+ghost use lib.ListN.{take};
+ghost use Rattle.masks.specs.Masks.{shares, matches, isOneBit, individualMasks};
 
 pub fn shares(m: u32, n: u32) -> bool
     ensures { λ r. ⌜ r ≡ shares m n ⌝ }
@@ -25,4 +29,44 @@ pub fn is_one_bit(m: u32) -> bool
     ensures { λ r. ⌜ r ≡ isOneBit m ⌝ }
 {
     u32::count_ones(m) == 1
+}
+
+// Up to 32 masks of one bit each: the first `count` of the array.
+pub struct Masks {
+    pub masks: [u32; 32],
+    pub count: usize,
+}
+
+impl Masks {
+    // One mask more, where its bit is set.
+    fn with_bit(self, set: bool, bit: u32) -> Masks
+        requires { ⌜ self .count < 32 ⌝ }
+        ensures { λ r. ⌜ (take (r .count) (r .masks) ≡ take (self .count) (self .masks) ++ cond set (bit ∷ []) []) × (r .count ≤ self .count + 1) ⌝ }
+    {
+        if !set {
+            return self;
+        }
+        let n = self.count;
+        let mut next = self;
+        next.masks[n] = bit;
+        next.count = n + 1;
+        next
+    }
+}
+
+// The set bits of a mask, each as a mask, lowest first.
+pub fn extract_individual_masks(m: u32) -> Masks
+    ensures { λ r. ⌜ (take (r .count) (r .masks) ≡ individualMasks m) × (r .count ≤ 32) ⌝ }
+{
+    let mut out = Masks {
+        masks: [0; 32],
+        count: 0,
+    };
+    let mut k: u32 = 0;
+    while k < 32 {
+        let bit: u32 = 1 << k;
+        out = out.with_bit(shares(m, bit), bit);
+        k += 1;
+    }
+    out
 }

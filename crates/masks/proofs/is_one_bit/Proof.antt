@@ -2,10 +2,7 @@ use Rattle.masks.specs.Masks.{isOneBit}
 use mathlib.Core.Path.{refl}
 use Rattle.masks.proofs.is_one_bit.Statement.{statement}
 use Rattle.masks.proofs.is_one_bit.Tie as tie
-use Rattle.masks.proofs.is_one_bit.Reads as reads
-use Rattle.masks.proofs.is_one_bit.Lts as lts
 
--- src/lib.rt:26:1
 returns : tie.Need-returns
 unfolding isOneBit
 returns c = refl

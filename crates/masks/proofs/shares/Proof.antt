@@ -2,10 +2,7 @@ use Rattle.masks.specs.Masks.{shares}
 use mathlib.Core.Path.{refl}
 use Rattle.masks.proofs.shares.Statement.{statement}
 use Rattle.masks.proofs.shares.Tie as tie
-use Rattle.masks.proofs.shares.Reads as reads
-use Rattle.masks.proofs.shares.Lts as lts
 
--- src/lib.rt:7:1
 returns : tie.Need-returns
 unfolding shares
 returns c = refl

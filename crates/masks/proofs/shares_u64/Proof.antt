@@ -2,10 +2,7 @@ use Rattle.masks.specs.Masks.{shares}
 use mathlib.Core.Path.{refl}
 use Rattle.masks.proofs.shares_u64.Statement.{statement}
 use Rattle.masks.proofs.shares_u64.Tie as tie
-use Rattle.masks.proofs.shares_u64.Reads as reads
-use Rattle.masks.proofs.shares_u64.Lts as lts
 
--- src/lib.rt:13:1
 returns : tie.Need-returns
 unfolding shares
 returns c = refl

@@ -1,0 +1,237 @@
+-- Laws of masks.
+-- Assumes nothing.
+use mathlib.Core.Path.{_≡_, refl, sym, ap, _∙_}
+use mathlib.Core.Bool.{Bool, true, false, cond, not, _&&_, _||_, false≢true}
+use mathlib.Core.List.{List, [], _∷_, _++_}
+use mathlib.Core.Logic.{_≢_, _↔_, _⊎_, inl, inr}
+use mathlib.Core.Option.{Option, none, some}
+use Prim.Native.Nat.{ℕ, zero, suc, _+_, _-_, _*_, _/_, _%_, _^_, _≤_, _<_, min, max}
+use native.Mathlib.Nat.{two-pow-succ, pow-succ', add-sub-cancel, zero-mul, one-mul, div-div-eq-div-mul, zero-div, eq-zero-or-pos}
+use native.Mathlib.Numerals.{add-one, one-add}
+use native.Mathlib.Omega.{arith}
+use lib.Arith.{bin-ind}
+use lib.Bits.{bitAnd, bitOr, and-comm, and-zero-r, and-step, or-step, and-le-l, and-le-r, or-add-and, and-shr, and-high}
+use lib.Dec.{eqb}
+use lib.ListN.{length, take, getD}
+use lib.Pow.{pow-pos, shl-exact}
+use lib.Seq.{take-suc, take-add}
+use borrow.Author.Tests.{eqb-true, eqb-false, eq-eqb, ne-eqb, not-true}
+use Rattle.rows.specs.Below.{orElse, firstBelow}
+use Rattle.rows.proofs.Bools.{not-both, cond-map}
+use Rattle.rows.proofs.BelowLaws.{first-none}
+use Rattle.masks.specs.Masks.{shares, matches, hasBit, bitsBelow, firstMask}
+
+-- ---- shares
+
+pub shares-says : (m n : ℕ) → (shares m n ≡ true) ↔ (bitAnd m n ≢ 0)
+unfolding shares
+shares-says m n = (λ h. eqb-false (bitAnd m n) 0 (not-true (eqb (bitAnd m n) 0) h), λ h. rw (ne-eqb (bitAnd m n) 0 h))
+
+pub shares-sym : (m n : ℕ) → shares m n ≡ shares n m
+unfolding shares
+shares-sym m n = rw (and-comm m n)
+
+-- the mask 0 shares no bit
+pub shares-zero-left : (m : ℕ) → shares 0 m ≡ false
+unfolding shares
+shares-zero-left m = refl
+
+pub shares-zero-right : (m : ℕ) → shares m 0 ≡ false
+shares-zero-right m = shares-sym m 0 ∙ shares-zero-left m
+
+or-half : (a b : ℕ) → bitOr a b / 2 ≡ bitOr (a / 2) (b / 2)
+or-half a b = let e = or-step a b in omega arith
+
+or-low : (a b : ℕ) → bitOr a b % 2 ≡ max (a % 2) (b % 2)
+or-low a b = let e = or-step a b in omega arith
+
+and-half : (a b : ℕ) → bitAnd a b / 2 ≡ bitAnd (a / 2) (b / 2)
+and-half a b = let e = and-step a b in omega arith
+
+and-low : (a b : ℕ) → bitAnd a b % 2 ≡ min (a % 2) (b % 2)
+and-low a b = let e = and-step a b in omega arith
+
+min-max : (x y z : ℕ) → min (max x y) z ≡ max (min x z) (min y z)
+min-max x y z = omega arith
+
+and-or : (m a b : ℕ) → bitAnd (bitOr a b) m ≡ bitOr (bitAnd a m) (bitAnd b m)
+and-or = bin-ind (λ (m : ℕ). (a b : ℕ) → bitAnd (bitOr a b) m ≡ bitOr (bitAnd a m) (bitAnd b m)) (λ a b. simp and-zero-r) step
+  where
+    step : (m : ℕ) → ((a b : ℕ) → bitAnd (bitOr a b) (m / 2) ≡ bitOr (bitAnd a (m / 2)) (bitAnd b (m / 2)))
+        → (a b : ℕ) → bitAnd (bitOr a b) m ≡ bitOr (bitAnd a m) (bitAnd b m)
+    step m ih a b =
+        let high : bitAnd (bitOr a b / 2) (m / 2) ≡ bitOr (bitAnd a m / 2) (bitAnd b m / 2) =
+        cc (or-half a b, ih (a / 2) (b / 2), and-half a m, and-half b m) in
+        let low : min (bitOr a b % 2) (m % 2) ≡ max (bitAnd a m % 2) (bitAnd b m % 2) =
+        cc (or-low a b, and-low a m, and-low b m, min-max (a % 2) (b % 2) (m % 2)) in
+        cc (and-step (bitOr a b) m, or-step (bitAnd a m) (bitAnd b m), high, low)
+
+or-zero : (x y : ℕ) → bitOr x y ≡ 0 → x ≡ 0
+or-zero x y h = omega (arith, or-add-and x y, and-le-r x y)
+
+or-nonzero : (x y : ℕ) → not (eqb (bitOr x y) 0) ≡ (not (eqb x 0) || not (eqb y 0))
+or-nonzero zero y = refl
+or-nonzero (suc x) y = rw (ne-eqb (bitOr (suc x) y) 0 (λ e. let z = or-zero (suc x) y e in omega arith), ne-eqb (suc x) 0 (λ e. omega arith))
+
+pub shares-or : (a b m : ℕ) → shares (bitOr a b) m ≡ (shares a m || shares b m)
+unfolding shares
+shares-or a b m = rw (and-or m a b) (or-nonzero (bitAnd a m) (bitAnd b m))
+
+-- two masks that hold every bit of a nonzero mask share a bit
+low-bit : (q m n x y z : ℕ) → q / 2 ≡ 0 → q ≢ 0 → q ≡ x * 2 + min (m % 2) (q % 2) → q ≡ y * 2 + min (n % 2) (q % 2) → z * 2 + min (m % 2) (n % 2) ≢ 0
+low-bit q m n x y z h k e f = omega arith
+
+half-bits : (q m x : ℕ) → q ≡ x * 2 + min (m % 2) (q % 2) → x ≡ q / 2
+half-bits q m x e = omega arith
+
+zero-half : (z r : ℕ) → z * 2 + r ≡ 0 → z ≡ 0
+zero-half z r h = omega arith
+
+match-share : (q m n : ℕ) → q ≢ 0 → bitAnd m q ≡ q → bitAnd n q ≡ q → bitAnd m n ≢ 0
+match-share = bin-ind (λ (q : ℕ). (m n : ℕ) → q ≢ 0 → bitAnd m q ≡ q → bitAnd n q ≡ q → bitAnd m n ≢ 0)
+    (λ m n k e f. absurd (k refl)) step
+  where
+    step : (q : ℕ) → ((m n : ℕ) → q / 2 ≢ 0 → bitAnd m (q / 2) ≡ q / 2 → bitAnd n (q / 2) ≡ q / 2 → bitAnd m n ≢ 0)
+        → (m n : ℕ) → q ≢ 0 → bitAnd m q ≡ q → bitAnd n q ≡ q → bitAnd m n ≢ 0
+    step q ih m n k e f = go (eq-zero-or-pos (q / 2))
+      where
+        em : q ≡ bitAnd (m / 2) (q / 2) * 2 + min (m % 2) (q % 2)
+        em = sym e ∙ and-step m q
+
+        en : q ≡ bitAnd (n / 2) (q / 2) * 2 + min (n % 2) (q % 2)
+        en = sym f ∙ and-step n q
+
+        go : (q / 2 ≡ 0) ⊎ (0 < q / 2) → bitAnd m n ≢ 0
+        go (inl z) w = low-bit q m n _ _ (bitAnd (m / 2) (n / 2)) z k em en (sym (and-step m n) ∙ w)
+        go (inr p) w =
+            let h : bitAnd (m / 2) (n / 2) ≢ 0 = ih (m / 2) (n / 2) (omega arith) (half-bits q m _ em) (half-bits q n _ en) in
+            h (zero-half _ _ (sym (and-step m n) ∙ w))
+
+pub matches-shares : (given m n : ℕ) → given ≢ 0 → matches given m ≡ true → matches given n ≡ true → shares m n ≡ true
+unfolding matches
+matches-shares q m n k hm hn = shares-says m n .1 (match-share q m n k (eqb-true (bitAnd m q) q hm) (eqb-true (bitAnd n q) q hn))
+
+-- ---- bits
+
+-- 1 << k
+pub one-bit : (k : ℕ) → k < 32 → 1 * 2 ^ k % 4294967296 ≡ 2 ^ k
+one-bit k l = shl-exact 1 k 32 (omega arith) (omega arith) ∙ one-mul (2 ^ k)
+
+single : (m k : ℕ) → bitAnd m (2 ^ k) ≡ (m / 2 ^ k % 2) * 2 ^ k
+single m k = ap (bitAnd m) (sym (rw (one-add, two-pow-succ) (add-sub-cancel (2 ^ k) (2 ^ k)))) ∙ and-high m 1 k
+
+digit : (b p : ℕ) → b < 2 → 0 < p → not (eqb (b * p) 0) ≡ eqb b 1
+digit zero p l h = rw zero-mul
+digit (suc zero) p l h = rw (one-mul, ne-eqb p 0 (λ e. omega arith))
+digit (suc (suc b)) p l h = absurd (omega arith)
+
+-- bit k is set where the digit k is 1
+pub has-bit : (m k : ℕ) → hasBit m k ≡ eqb (m / 2 ^ k % 2) 1
+unfolding hasBit shares
+has-bit m k = rw single (digit (m / 2 ^ k % 2) (2 ^ k) (omega arith) (pow-pos k))
+
+has-digit : (m k : ℕ) → hasBit m k ≡ true → m / 2 ^ k % 2 ≡ 1
+has-digit m k h = eqb-true (m / 2 ^ k % 2) 1 (sym (has-bit m k) ∙ h)
+
+half-bit : (m k : ℕ) → hasBit (m / 2) k ≡ hasBit m (suc k)
+half-bit m k = rw (has-bit (m / 2) k, has-bit m (suc k), pow-succ', div-div-eq-div-mul)
+
+-- masks that have bit k
+pub bit-shares : (m n k : ℕ) → hasBit m k ≡ true → hasBit n k ≡ true → shares m n ≡ true
+bit-shares m n k h g =
+    shares-says m n .1 (λ e.
+    let high : bitAnd (m / 2 ^ k) (n / 2 ^ k) ≡ 0 = sym (and-shr m n k) ∙ rw e (zero-div (2 ^ k)) in
+    omega (arith, and-step (m / 2 ^ k) (n / 2 ^ k), has-digit m k h, has-digit n k g))
+
+shares-bit : (w m n : ℕ) → m < 2 ^ w → shares m n ≡ true → (k : ℕ) × (k < w) × (hasBit m k ≡ true) × (hasBit n k ≡ true)
+shares-bit zero m n l h =
+    let e : m ≡ 0 = omega arith in
+    not-both (rw e (shares-zero-left n)) h
+shares-bit (suc w) m n l h = go (shares-bit w (m / 2) (n / 2) (omega arith)) (eq-zero-or-pos (min (m % 2) (n % 2)))
+  where
+    go : (shares (m / 2) (n / 2) ≡ true → (k : ℕ) × (k < w) × (hasBit (m / 2) k ≡ true) × (hasBit (n / 2) k ≡ true))
+        → (min (m % 2) (n % 2) ≡ 0) ⊎ (0 < min (m % 2) (n % 2)) → (k : ℕ) × (k < suc w) × (hasBit m k ≡ true) × (hasBit n k ≡ true)
+    go rest (inl z) =
+        let (k, b, f, g) = rest (shares-says (m / 2) (n / 2) .1 (λ e. shares-says m n .0 h (omega (arith, and-step m n)))) in
+        (suc k, omega arith, sym (half-bit m k) ∙ f, sym (half-bit n k) ∙ g)
+    go rest (inr p) = (0, omega arith, rw has-bit (eq-eqb (m / 1 % 2) 1 (omega arith)), rw has-bit (eq-eqb (n / 1 % 2) 1 (omega arith)))
+
+-- a mask of w bits shares a bit with another exactly where both have it
+pub shares-bits : (w m n : ℕ) → m < 2 ^ w → (shares m n ≡ true) ↔ ((k : ℕ) × (k < w) × (hasBit m k ≡ true) × (hasBit n k ≡ true))
+shares-bits w m n l = (shares-bit w m n l, λ (k, b, f, g). bit-shares m n k f g)
+
+pub bits-more : (n m : ℕ) → bitsBelow (n + 1) m ≡ bitsBelow n m ++ cond (hasBit m n) (2 ^ n ∷ []) []
+unfolding bitsBelow
+bits-more n m = rw add-one
+
+-- ---- firstMask
+
+-- the bit at an index that was looked for, as a mask
+abbrev pub bitAt : Option ℕ → Option ℕ
+bitAt none = none
+bitAt (some k) = some (2 ^ k)
+
+bitAt-or : (a b : Option ℕ) → bitAt (orElse a b) ≡ orElse (bitAt a) (bitAt b)
+bitAt-or none b = refl
+bitAt-or (some k) b = refl
+
+bitAt-none : (o : Option ℕ) → bitAt o ≡ none → o ≡ none
+bitAt-none none h = refl
+bitAt-none (some k) h = absurd (false≢true (cc))
+
+-- a test that fails, or whose first part fails
+fails-where : (b c : Bool) → (b && c) ≡ false → b ≡ true → c ≡ false
+fails-where true c h g = h
+fails-where false c h g = not-both refl g
+
+where-fails : (b c : Bool) → (b ≡ true → c ≡ false) → (b && c) ≡ false
+where-fails true c h = h refl
+where-fails false c h = refl
+
+module _ (p : ℕ → Bool) where
+  pub first-mask-append : (xs ys : List ℕ) → firstMask p (xs ++ ys) ≡ orElse (firstMask p xs) (firstMask p ys)
+  unfolding firstMask
+  first-mask-append [] ys = refl
+  first-mask-append (x ∷ xs) ys =
+      rw (first-mask-append xs ys) (sym (cond-map (λ (o : Option ℕ). orElse o (firstMask p ys)) (p x) (some x) (firstMask p xs)))
+
+  pub first-mask-same : (q : ℕ → Bool) → ((m : ℕ) → p m ≡ q m) → (ms : List ℕ) → firstMask p ms ≡ firstMask q ms
+  unfolding firstMask
+  first-mask-same q h [] = refl
+  first-mask-same q h (m ∷ ms) = rw (h m, first-mask-same q h ms)
+
+  -- among the bits of a mask: the lowest set bit that passes
+  pub first-mask-bits : (n m : ℕ) → firstMask p (bitsBelow n m) ≡ bitAt (firstBelow n (λ k. hasBit m k && p (2 ^ k)))
+  unfolding firstMask bitsBelow firstBelow
+  first-mask-bits zero m = refl
+  first-mask-bits (suc n) m =
+      rw (first-mask-append (bitsBelow n m) (cond (hasBit m n) (2 ^ n ∷ []) []), first-mask-bits n m, one (hasBit m n) (p (2 ^ n)) refl)
+      (sym (bitAt-or (firstBelow n (λ k. hasBit m k && p (2 ^ k))) (cond (hasBit m n && p (2 ^ n)) (some n) none)))
+    where
+      one : (b c : Bool) → p (2 ^ n) ≡ c → firstMask p (cond b (2 ^ n ∷ []) []) ≡ bitAt (cond (b && c) (some n) none)
+      one true true e = rw e
+      one true false e = rw e
+      one false c e = refl
+
+  pub first-mask-none : (n m : ℕ) → (firstMask p (bitsBelow n m) ≡ none) ↔ ((k : ℕ) → k < n → hasBit m k ≡ true → p (2 ^ k) ≡ false)
+  first-mask-none n m =
+      let q : ℕ → Bool = λ k. hasBit m k && p (2 ^ k) in
+      let e = first-mask-bits n m in
+      let f = first-none n q in (
+        λ h k l g. fails-where (hasBit m k) (p (2 ^ k)) (f .0 (bitAt-none (firstBelow n q) (sym e ∙ h)) k l) g,
+        λ h. e ∙ ap bitAt (f .1 (λ k l. where-fails (hasBit m k) (p (2 ^ k)) (h k l))),
+      )
+
+  -- one mask more
+  pub first-mask-more : (ms : List ℕ) (j : ℕ) → j < length ms
+      → firstMask p (take (j + 1) ms) ≡ orElse (firstMask p (take j ms)) (cond (p (getD ms j 0)) (some (getD ms j 0)) none)
+  unfolding firstMask
+  first-mask-more ms j l = rw (add-one, take-suc ms j 0, first-mask-append)
+
+  -- mask j passes, and none before it
+  pub first-mask-stop : (ms : List ℕ) (n j : ℕ) → j < n → n ≤ length ms → firstMask p (take j ms) ≡ none → p (getD ms j 0) ≡ true
+      → firstMask p (take n ms) ≡ some (getD ms j 0)
+  first-mask-stop ms n j l h e g =
+      let split : n ≡ (j + 1) + (n - (j + 1)) = omega arith in
+      let found : firstMask p (take (j + 1) ms) ≡ some (getD ms j 0) = rw (first-mask-more ms j (omega arith), e, g) in
+      rw (split, take-add (j + 1) (n - (j + 1)) ms, first-mask-append, found)

@@ -1,0 +1,60 @@
+use mathlib.Core.Path.{_≡_, refl, sym}
+use Prim.Native.Nat.{_-_, _≤_}
+use native.Mathlib.Omega.{arith}
+use borrow.Author.Needs.{needs}
+use lib.ListN.{take}
+use Rattle.masks.specs.Masks.{bitsBelow, hasBit}
+use Rattle.masks.proofs.MaskLaws.{one-bit, bits-more}
+use Rattle.masks.proofs.extract_individual_masks.Statement.{statement}
+use Rattle.masks.proofs.extract_individual_masks.Tie as tie
+
+abbrev Inv-loop : tie.InvT-loop
+Inv-loop m out₀ k₀ out k = (k ≤ 32) × (take (out .count) (out .masks) ≡ bitsBelow k m) × (out .count ≤ k)
+
+abbrev μ-loop : tie.MeasureT-loop
+μ-loop m out₀ k₀ out k = 32 - k
+
+loop-holds : tie.Need-loop-holds Inv-loop μ-loop
+unfolding bitsBelow
+loop-holds c = (omega arith, refl, omega arith)
+
+shl-bit : tie.Need-shl-bit Inv-loop μ-loop
+shl-bit c = search needs
+
+shares-requires : tie.Need-shares-requires Inv-loop μ-loop
+shares-requires c κs = search needs
+
+with-bit-requires : tie.Need-with-bit-requires Inv-loop μ-loop
+with-bit-requires c κs = search needs
+
+add-k : tie.Need-add-k Inv-loop μ-loop
+add-k c = search needs
+
+loop-less : tie.Need-loop-less Inv-loop μ-loop
+loop-less c = search needs
+
+loop-again : tie.Need-loop-again Inv-loop μ-loop
+unfolding hasBit
+loop-again c =
+    let k = c .before .before .before .loop .k in
+    (search needs, rw bits-more (cc (one-bit k (search needs))), omega arith)
+
+returns : tie.Need-returns Inv-loop μ-loop
+returns c =
+    let e : c .before .loop .k ≡ 32 = omega arith in
+    (rw (← e) (c .before .loop .inv .1), omega arith)
+
+pub extract-individual-masks-spec : {M : Type 1} → statement M
+extract-individual-masks-spec =
+    tie.close
+    (tie.spec
+    Inv-loop
+    μ-loop
+    loop-holds
+    shl-bit
+    shares-requires
+    with-bit-requires
+    add-k
+    loop-less
+    loop-again
+    returns)
