@@ -12,9 +12,11 @@ ghost use Rattle.platforms.specs.Record.{HoldsPlatforms};
 ghost use Rattle.initializations.specs.Record.{HoldsRegions};
 ghost use Rattle.directives.specs.Record.{howOf, areaNumber};
 ghost use Rattle.rules.specs.Verdict.{directivesRefusal};
-ghost use Rattle.file.specs.File.{verdictOf, noFile};
+ghost use Rattle.answers.specs.Verdict.{verdictOf, noFile};
 ghost use Rattle.directives.specs.Record.{firstBadArea};
 ghost use Rattle.file.specs.Passes.{PlatformsPassed, InitializationsPassed};
+use answers::IgvmFile;
+use answers::Verdict;
 use igvm_defs::Fault;
 use igvm_defs::Refusal;
 use initializations::RelocRegions;
@@ -164,18 +166,6 @@ fn validate_directive_headers(s: &[u8], head: SheetHead, regions: RelocRegions) 
 }
 
 // ---- the verdict
-
-// How many headers each list of an accepted file has; all 0 where the file is refused.
-pub struct IgvmFile {
-    pub platform_headers: u64,
-    pub initialization_headers: u64,
-    pub directive_headers: u64,
-}
-
-pub struct Verdict {
-    pub refusal: Refusal,
-    pub file: IgvmFile,
-}
 
 const NO_FILE: IgvmFile = IgvmFile {
     platform_headers: 0,

@@ -9,8 +9,8 @@ use Rattle.sheet.specs.Read.{sheetRefusal}
 use Rattle.headers.specs.Headers.{sheetHeaders}
 use Rattle.rules.specs.Verdict.{headersRefusal}
 use Rattle.sheet.specs.declared.SheetHead.{SheetHead}
-use Rattle.file.specs.declared.IgvmFile.{IgvmFile}
-use Rattle.file.specs.declared.Verdict.{Verdict}
+use Rattle.answers.specs.declared.IgvmFile.{IgvmFile}
+use Rattle.answers.specs.declared.Verdict.{Verdict}
 
 -- 1 to 34
 unfoldable pub verdictRefusal : Limits → List ℕ → Refusal

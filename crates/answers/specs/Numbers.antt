@@ -1,0 +1,43 @@
+-- The numbers of an answer, in the order in which a call across the C linkage names them.
+use Prim.Native.Nat.{ℕ}
+use mathlib.Core.Bool.{Bool, cond}
+use mathlib.Core.List.{List, [], _∷_}
+use lib.ListN.{getD}
+use Rattle.igvm_defs.specs.declared.Refusal.{Refusal}
+use Rattle.answers.specs.declared.Verdict.{Verdict}
+use Rattle.answers.specs.declared.Relocations.{Relocations}
+use Rattle.answers.specs.declared.Checked.{Checked}
+
+-- number `which` of an answer; 0 where the answer has no such number
+unfoldable pub numberOf : ℕ → List ℕ → ℕ
+numberOf which numbers = getD numbers which 0
+
+-- 0 number, 1 row, 2 detail, 3 platform rows, 4 initialization rows, 5 directive rows
+abbrev pub verdictNumbers : Verdict → List ℕ
+verdictNumbers v =
+    v .refusal .number
+    ∷ v .refusal .row
+    ∷ v .refusal .detail
+    ∷ v .file .«platform_headers»
+    ∷ v .file .«initialization_headers»
+    ∷ v .file .«directive_headers»
+    ∷ []
+
+-- 0 number, 1 row, 2 detail, 3 count, 4 page table (1 or 0), 5 gpa, 6 size, 7 used size, 8 VP index, 9 VTL
+abbrev pub relocationNumbers : Relocations → List ℕ
+relocationNumbers a =
+    a .refusal .number
+    ∷ a .refusal .row
+    ∷ a .refusal .detail
+    ∷ a .count
+    ∷ cond (a .«has_page_table») 1 0
+    ∷ a .«page_table» .gpa
+    ∷ a .«page_table» .size
+    ∷ a .«page_table» .«used_size»
+    ∷ a .«page_table» .«vp_index»
+    ∷ a .«page_table» .vtl
+    ∷ []
+
+-- 0 number, 1 row, 2 detail, 3 valid or contained (1 or 0)
+abbrev pub checkNumbers : Checked → List ℕ
+checkNumbers a = a .refusal .number ∷ a .refusal .row ∷ a .refusal .detail ∷ cond (a .holds) 1 0 ∷ []

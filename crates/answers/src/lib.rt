@@ -1,0 +1,30 @@
+// What each call answers of any byte string: the verdict, the relocation query, the base check and the address check. These are definitions alone,
+// in specs/, and what a reader must believe. Here are the structs of the answers.
+use igvm_defs::Refusal;
+use rules::PageTableRegion;
+
+// How many headers each list of an accepted file has; all 0 where the file is refused.
+pub struct IgvmFile {
+    pub platform_headers: u64,
+    pub initialization_headers: u64,
+    pub directive_headers: u64,
+}
+
+pub struct Verdict {
+    pub refusal: Refusal,
+    pub file: IgvmFile,
+}
+
+// How many regions the mask has, whether it has a page-table region, and that region's numbers; 0 or no in all of these where the call is refused.
+pub struct Relocations {
+    pub refusal: Refusal,
+    pub count: u64,
+    pub has_page_table: bool,
+    pub page_table: PageTableRegion,
+}
+
+// Whether the base is valid, or the address contained; no where the call is refused.
+pub struct Checked {
+    pub refusal: Refusal,
+    pub holds: bool,
+}

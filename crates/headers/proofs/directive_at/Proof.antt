@@ -1,0 +1,27 @@
+use borrow.Author.Needs.{needs}
+use Rattle.headers.proofs.directive_at.Statement.{statement}
+use Rattle.headers.proofs.directive_at.Tie as tie
+use Rattle.headers.proofs.directive_at.Reads as reads
+use Rattle.headers.proofs.directive_at.Lts as lts
+use Rattle.directive_header.proofs.decode.Reads as decode-reads
+use Rattle.sheet.proofs.Cursor.body.Reads as body-reads
+use Rattle.sheet.proofs.Cursor.kind.Reads as kind-reads
+
+-- src/lib.rt:37:30
+kind-requires : tie.Need-kind-requires
+kind-requires c κs = search needs
+
+-- src/lib.rt:37:41
+body-requires : tie.Need-body-requires
+body-requires c κs = search needs
+
+-- src/lib.rt:37:5
+decode-requires : tie.Need-decode-requires
+decode-requires c κs = ?
+
+-- src/lib.rt:32:1
+returns : tie.Need-returns
+returns c = ?
+
+pub directive-at-spec : {M : Type 1} → statement M
+directive-at-spec = tie.close (tie.spec kind-requires body-requires decode-requires returns)

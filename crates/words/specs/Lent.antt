@@ -1,0 +1,20 @@
+-- Bytes that a caller lends, changed byte by byte; and words in them, eight bytes each, little-endian.
+use Prim.Native.Nat.{ℕ, suc, _*_, _/_, _%_}
+use mathlib.Core.Bool.{cond}
+use mathlib.Core.List.{List, [], _∷_}
+use lib.Dec.{ltb}
+use lib.ListN.{getD}
+use Rattle.le.specs.Le.{byteOf}
+
+-- the byte x at place j becomes f j x; i is the place of the list's first byte
+unfoldable pub eachFrom : ℕ → (ℕ → ℕ → ℕ) → List ℕ → List ℕ
+eachFrom i f [] = []
+eachFrom i f (x ∷ b) = f i x ∷ eachFrom (suc i) f b
+
+abbrev pub each : (ℕ → ℕ → ℕ) → List ℕ → List ℕ
+each f b = eachFrom 0 f b
+
+-- the lent bytes with rows of eight words in front: word k of row n is item k of `row n`, for the `count` rows from 0 on. Bytes behind them keep their contents
+unfoldable pub rowsPut : ℕ → (ℕ → List ℕ) → List ℕ → List ℕ
+rowsPut count row b =
+    each (λ j x. cond (ltb j (64 * count)) (byteOf (j % 8) (getD (row (j / 64)) (j / 8 % 8) 0)) x) b

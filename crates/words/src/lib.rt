@@ -1,0 +1,1 @@
+// Little-endian words in bytes that a caller lends.
