@@ -8,6 +8,7 @@ use native.Mathlib.Omega.{arith}
 use lib.Dec.{leb, eqb}
 use lib.ListN.{length, take}
 use borrow.Author.Tests.{leb-true, eqb-true, eq-eqb}
+use Rattle.rows.proofs.Bools.{and-parts}
 use Rattle.igvm_defs.specs.Kinds.{Span, lookup, spans, kindOf, fields, platformList, initializationList, directiveList}
 
 -- ---- the kinds of a list
@@ -20,10 +21,6 @@ spanWithin l lo hi x = not (eqb (x .kind .list) l) || (leb lo (x .first) && leb 
 abbrev pub listWithin : ℕ → ℕ → ℕ → List Span → Bool
 listWithin l lo hi [] = true
 listWithin l lo hi (x ∷ xs) = spanWithin l lo hi x && listWithin l lo hi xs
-
-and-parts : (b c : Bool) → (b && c) ≡ true → (b ≡ true) × (c ≡ true)
-and-parts true c h = (refl, h)
-and-parts false c h = absurd (false≢true h)
 
 or-not : (t u : Bool) → (not t || u) ≡ true → t ≡ true → u ≡ true
 or-not true u h e = h
