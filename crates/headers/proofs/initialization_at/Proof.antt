@@ -1,3 +1,4 @@
+use Rattle.headers.proofs.HeaderLaws.{body-long}
 use borrow.Author.Needs.{needs}
 use Rattle.headers.proofs.initialization_at.Statement.{statement}
 use Rattle.headers.proofs.initialization_at.Tie as tie
@@ -17,11 +18,14 @@ body-requires c κs = search needs
 
 -- src/lib.rt:29:5
 decode-requires : tie.Need-decode-requires
-decode-requires c κs = ?
+decode-requires c κs =
+    let k = c .before .kind .ensures in
+    let pre = c .before .before .before .pre in
+    (rw k (pre .1), rw (k, c .body .ensures) (body-long _ _ (pre .0)))
 
 -- src/lib.rt:24:1
 returns : tie.Need-returns
-returns c = ?
+returns c = cc
 
 pub initialization-at-spec : {M : Type 1} → statement M
 initialization-at-spec = tie.close (tie.spec kind-requires body-requires decode-requires returns)
