@@ -183,6 +183,7 @@ refused("02-v1-aarch64", 0, 0, "revision 1 with arch 1", A.head(revision=1, page
 refused("02-v1-page-size", 0, 0, "revision 1 with page size 4096", B.head(page_size=4096))
 refused("02-zeroes", 0, 0, "16 zero bytes", bytes(16))
 refused("02-before-03", 0, 0, "revision 0, and 65 initialization rows", B.head(revision=0).initializations(*[guest_policy()] * 65))
+refused("02-v1-before-03", 0, 0, "revision 1 with page size 4096, and 17 platform rows", B.head(page_size=4096).platforms(*[platform()] * 17))
 refused("02-before-01", 0, 0, "revision 0, and no table", bytes(B.head(revision=0))[:16])
 
 # 3: over a limit
@@ -367,6 +368,7 @@ refused("26-before-29", 4, 0, "the same page table twice", TABLE.plus(page_table
 refused("27-size-0", 2, 0, "size 0", B.initializations(region(size=0)))
 refused("27-page-table", 3, 0, "page-table size 0", B.plus(page_table(size=0, used=0)))
 refused("27-mask-0", 3, 0, "a region of mask 0 and size 0", B.plus(region(mask=0, size=0)))
+refused("27-before-29", 3, 0, "a region of size 0 within another", B.plus(region(gpa=0x101000, size=0)))
 refused("28-region", 2, 0, "gpa 0xFFFFFFFFFFFFE000, size 0x2000: the sum is 2^64", B.initializations(region(gpa=TOP - 0x1000)))
 accepted("top", "1 1 1", "gpa 0xFFFFFFFFFFFFD000: the sum is one page below 2^64", B.initializations(region(gpa=TOP - 0x2000)))
 refused("28-page-table", 3, 0, "the same for a page table", B.plus(page_table(gpa=TOP - 0x1000)))
@@ -405,6 +407,7 @@ accepted("opaque", "1 1 6", "opaque bytes of any length", B.plus(
     snp_vp_context(tail=bytes(range(256))), x64_native(tail=b"x"), x64_vbs(tail=b"xyz"),
     snp_id_block(tail=bytes(5)), vbs_measurement(tail=b"\xff" * 300),
 ))
+accepted("opaque-aarch64", "1 1 3", "the same in kinds 48 and 49", A.plus(aarch64_vbs(tail=b"xyz"), aarch64_cca(tail=b"x")))
 for make in (page_data, required_memory, snp_vp_context, parameter_insert, error_range):
     refused(f"21-kind-{make().kind}", 4, 0x1800, f"kind {make().kind}, gpa 0x1800", B.plus(make(gpa=0x1800)))
 refused("21-high", 4, 2**64 - 1, "gpa 2^64 - 1", B.plus(page_data(gpa=2**64 - 1)))
