@@ -1,7 +1,9 @@
 -- A list of rows: how many there are, and the row at each index.
-use mathlib.Core.Bool.{Bool}
+use mathlib.Core.Bool.{Bool, true, false}
+use mathlib.Core.Logic.{_≢_}
 use mathlib.Core.Option.{Option, none, some}
-use Prim.Native.Nat.{ℕ}
+use mathlib.Core.Path.{_≡_}
+use Prim.Native.Nat.{ℕ, _<_}
 use Rattle.rows.specs.Below.{anyBelow, lastBelow, countBelow, nthBelow}
 
 pub record Rows (H : Type 0) : Type 0 where
@@ -33,3 +35,11 @@ module _ {H : Type 0} where
   -- the row that passes and has k rows before it that pass
   abbrev pub nth : (H → Bool) → Rows H → ℕ → Option H
   nth p xs k = rowAt xs (nthBelow (xs .count) (λ i. p (xs .row i)) k)
+
+  -- no two rows clash
+  abbrev pub Apart : (H → H → Bool) → Rows H → Type 0
+  Apart clash xs = (i j : ℕ) → i < xs .count → j < xs .count → i ≢ j → clash (xs .row i) (xs .row j) ≡ false
+
+  -- at most one row passes
+  abbrev pub Once : (H → Bool) → Rows H → Type 0
+  Once p xs = (i j : ℕ) → i < xs .count → j < xs .count → p (xs .row i) ≡ true → p (xs .row j) ≡ true → i ≡ j

@@ -1,0 +1,3 @@
+pub mod Bools
+pub mod BelowLaws
+pub mod PairedLaws
