@@ -1,14 +1,14 @@
 -- Laws of `rowsRefusal` and `sheetRefusal`, for the passes that compute them: where each stops, and what it says at the end.
 -- Assumes nothing.
 use mathlib.Core.Path.{_≡_, refl}
-use mathlib.Core.Bool.{Bool, true, false, _||_}
+use mathlib.Core.Bool.{true, false}
 use mathlib.Core.List.{List}
-use Prim.Native.Nat.{ℕ, _+_, _<_, _≤_}
+use Prim.Native.Nat.{ℕ, _+_, _<_}
 use native.Mathlib.Nat.{zero-add}
-use native.Mathlib.Numerals.{add-one}
 use Rattle.rows.specs.Below.{anyBelow}
-use Rattle.igvm_defs.specs.Refusals.{noRefusal, isFault, isRefusal, inRow, orElse, firstFault}
-use Rattle.igvm_defs.proofs.RefusalLaws.{row-refusal, no-fault-row, orElse-first, orElse-later, fault-stop, fault-end, faults-any}
+use Rattle.rows.proofs.BelowLaws.{any-more}
+use Rattle.igvm_defs.specs.Refusals.{noRefusal, isFault, isRefusal, inRow}
+use Rattle.igvm_defs.proofs.RefusalLaws.{row-refusal, orElse-first, orElse-later, fault-stop, fault-end}
 use Rattle.sheet.specs.Head.{Limits, headOf, rowCount, startFault, pageSizeFault}
 use Rattle.sheet.specs.Read.{rowFault, endFault, rowsRefusal, readRefusal, sheetRefusal}
 
@@ -21,8 +21,7 @@ unfolding anyBelow
 passed-none s = refl
 
 pub passed-more : (s : List ℕ) (k : ℕ) → Passed s k → isFault (rowFault s k) ≡ false → Passed s (k + 1)
-unfolding anyBelow
-passed-more s k h e = rw (add-one, h, e)
+passed-more s k h e = rw (any-more, h, e)
 
 -- ---- the rows
 pub rows-stop : (s : List ℕ) (k : ℕ) → k < rowCount (headOf s) → Passed s k → isFault (rowFault s k) ≡ true

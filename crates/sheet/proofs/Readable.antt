@@ -1,42 +1,30 @@
 -- What holds of a readable sheet: its head and its rows pass, and the bodies end where the sheet does. Both ways.
 -- Assumes nothing.
-use mathlib.Core.Path.{_≡_, refl, ap}
-use mathlib.Core.Bool.{Bool, true, false, not, cond, _&&_, _||_, and-eq-true-iff}
+use mathlib.Core.Path.{_≡_, refl}
+use mathlib.Core.Bool.{Bool, true, false, not, _&&_, _||_}
 use mathlib.Core.List.{List}
-use mathlib.Core.Logic.{_↔_, ⊎-elim}
-use Prim.Native.Nat.{ℕ, zero, suc, _+_, _*_, _<_, _≤_}
-use native.Mathlib.Nat.{not-suc-le-zero, eq-or-lt-of-le}
+use mathlib.Core.Logic.{_↔_}
+use Prim.Native.Nat.{ℕ, zero, suc, _+_, _<_, _≤_}
 use native.Mathlib.Omega.{arith}
 use native.Mathlib.Numerals.{add-one}
 use lib.Dec.{leb, ltb, eqb}
-use lib.ListN.{length, getD, take, drop, length-take, length-drop}
+use lib.ListN.{length, length-take, length-drop}
 use lib.Seq.{getD-take, getD-drop}
 use borrow.Author.Tests.{leb-true, le-leb, ltb-false, le-ltb, lt-ltb, eqb-true, eq-eqb, not-false}
 use Rattle.rows.specs.Below.{anyBelow, sumBelow}
+use Rattle.rows.proofs.Bools.{or-false-parts, and-parts}
+use Rattle.rows.proofs.BelowLaws.{none-any, sum-more}
 use Rattle.le.specs.Le.{byteAt}
-use Rattle.igvm_defs.specs.Refusals.{fault, noFault, refuse, isFault, isRefusal, inRow, orElse, firstFault}
+use Rattle.igvm_defs.specs.Refusals.{isFault, isRefusal}
 use Rattle.igvm_defs.specs.Kinds.{platformList, initializationList, directiveList, kindOf, lengthOk}
 use Rattle.igvm_defs.specs.Revision.{pageSizeOf}
-use Rattle.igvm_defs.proofs.RefusalLaws.{no-fault, refuse-fault, row-refusal, else-refusal, faults-any, or-none}
+use Rattle.igvm_defs.proofs.RefusalLaws.{no-fault, refuse-fault, row-refusal, else-refusal, faults-any}
 use Rattle.igvm_defs.proofs.LengthLaws.{length-least}
 use Rattle.sheet.specs.declared.SheetHead.{SheetHead}
 use Rattle.sheet.specs.Head.{Limits, limits, headOf, rowCount, bodiesAt, layoutOk, withinLimits, startFault, revisionOf, pageSizeFault}
 use Rattle.sheet.specs.Table.{rowKind, rowLength, offsetOf, bodyOf}
 use Rattle.sheet.specs.Read.{listAt, codesOk, rowFault, endFault, rowsRefusal, readRefusal, Readable, sheetRefusal}
 use Rattle.sheet.specs.Walk.{cursorAt, AtRow}
-
--- ---- no index below n passes
-none-at : (p : ℕ → Bool) (n : ℕ) → anyBelow n p ≡ false → (i : ℕ) → i < n → p i ≡ false
-unfolding anyBelow
-none-at p zero e i h = absurd (not-suc-le-zero h)
-none-at p (suc n) e i h =
-    let (a, b) = or-none (anyBelow n p) (p n) e in
-    ⊎-elim (λ q. let z : i ≡ n = omega arith in rw z b) (λ m. none-at p n a i (omega arith)) (eq-or-lt-of-le h)
-
-any-none : (p : ℕ → Bool) (n : ℕ) → ((i : ℕ) → i < n → p i ≡ false) → anyBelow n p ≡ false
-unfolding anyBelow
-any-none p zero f = refl
-any-none p (suc n) f = rw (any-none p n (λ i h. f i (omega arith)), f n (omega arith))
 
 -- ---- whether a fault or a refusal is met, as one test
 start-fault : (l : Limits) (s : List ℕ) → isFault (startFault l s)
@@ -89,9 +77,9 @@ within-says l h n = (there, λ (a, b, c, d). rw (le-leb _ _ a, le-leb _ _ b, le-
 
     there : (p && i && d && b) ≡ true → (h .platforms ≤ l .platforms) × (h .initializations ≤ l .initializations) × (h .directives ≤ l .directives) × (n ≤ l .bytes)
     there e =
-        let (x, w) = and-eq-true-iff (p && i && d) b .0 e in
-        let (y, v) = and-eq-true-iff (p && i) d .0 x in
-        let (z, u) = and-eq-true-iff p i .0 y in
+        let (x, w) = and-parts (p && i && d) b e in
+        let (y, v) = and-parts (p && i) d x in
+        let (z, u) = and-parts p i y in
         (leb-true _ _ z, leb-true _ _ u, leb-true _ _ v, leb-true _ _ w)
 
 pub start-says : (l : Limits) (s : List ℕ) → (isFault (startFault l s) ≡ false) ↔ Started l s
@@ -99,10 +87,10 @@ start-says l s = (there, back)
   where
     there : isFault (startFault l s) ≡ false → Started l s
     there e =
-        let (a, f) = or-none (ltb (length s) 16) _ (rw (start-fault l s) at e) in
-        let (b, g) = or-none (not (layoutOk (headOf s))) _ f in
-        let (c, h) = or-none (not (withinLimits l (headOf s) (length s))) _ g in
-        let (d, z) = or-none (ltb (length s) (bodiesAt (headOf s))) _ h in
+        let (a, f) = or-false-parts (ltb (length s) 16) _ (rw (start-fault l s) at e) in
+        let (b, g) = or-false-parts (not (layoutOk (headOf s))) _ f in
+        let (c, h) = or-false-parts (not (withinLimits l (headOf s) (length s))) _ g in
+        let (d, z) = or-false-parts (ltb (length s) (bodiesAt (headOf s))) _ h in
         let (p, i, r, n) = within-says l (headOf s) (length s) .0 (not-false _ c) in
         record {
           head = ltb-false _ _ a;
@@ -150,10 +138,10 @@ row-says s k = (there, back)
   where
     there : isFault (rowFault s k) ≡ false → RowOk s k
     there e =
-        let (a, f) = or-none (not (eqb (kindOf (rowKind s k) .list) (listAt (headOf s) k))) _ (rw (row-fault s k) at e) in
-        let (b, g) = or-none (not (lengthOk (kindOf (rowKind s k)) (rowLength s k))) _ f in
-        let (c, h) = or-none (ltb (length s) (offsetOf s k + rowLength s k)) _ g in
-        let (d, z) = or-none (not (codesOk (rowKind s k) (bodyOf s k))) _ h in
+        let (a, f) = or-false-parts (not (eqb (kindOf (rowKind s k) .list) (listAt (headOf s) k))) _ (rw (row-fault s k) at e) in
+        let (b, g) = or-false-parts (not (lengthOk (kindOf (rowKind s k)) (rowLength s k))) _ f in
+        let (c, h) = or-false-parts (ltb (length s) (offsetOf s k + rowLength s k)) _ g in
+        let (d, z) = or-false-parts (not (codesOk (rowKind s k) (bodyOf s k))) _ h in
         record { list = eqb-true _ _ (not-false _ a); long = not-false _ b; room = ltb-false _ _ c; codes = not-false _ d }
 
     back : RowOk s k → isFault (rowFault s k) ≡ false
@@ -165,8 +153,8 @@ unfolding offsetOf sumBelow
 offset-first s = omega arith
 
 pub offset-next : (s : List ℕ) (k : ℕ) → offsetOf s (k + 1) ≡ offsetOf s k + rowLength s k
-unfolding offsetOf sumBelow
-offset-next s k = rw add-one (omega arith)
+unfolding offsetOf
+offset-next s k = omega (arith, sum-more k (rowLength s))
 
 pub body-length : (s : List ℕ) (k : ℕ) → offsetOf s k + rowLength s k ≤ length s → length (bodyOf s k) ≡ rowLength s k
 unfolding bodyOf
@@ -197,18 +185,18 @@ readable-says l s = (there, back)
 
     there : Readable l s → Reads l s
     there ok =
-        let (a, f) = or-none (isFault (startFault l s)) _ (rw (read-refusal l s) at ok) in
-        let (b, c) = or-none (anyBelow n (λ k. isFault (rowFault s k))) _ f in
-        let (d, z) = or-none (ltb (offsetOf s n) (length s)) _ (rw (end-fault s) at c) in
+        let (a, f) = or-false-parts (isFault (startFault l s)) _ (rw (read-refusal l s) at ok) in
+        let (b, c) = or-false-parts (anyBelow n (λ k. isFault (rowFault s k))) _ f in
+        let (d, z) = or-false-parts (ltb (offsetOf s n) (length s)) _ (rw (end-fault s) at c) in
         let start = start-says l s .0 a in
-        let row : (k : ℕ) → k < n → RowOk s k = λ k h. row-says s k .0 (none-at (λ k. isFault (rowFault s k)) n b k h) in
+        let row : (k : ℕ) → k < n → RowOk s k = λ k h. row-says s k .0 (none-any n (λ k. isFault (rowFault s k)) .0 b k h) in
         let low = ltb-false (offsetOf s n) (length s) d in
         let high = offset-within s (start .table) row n (omega arith) in
         record { start = start; row = row; whole = omega arith }
 
     back : Reads l s → Readable l s
     back r =
-        let rows : anyBelow n (λ k. isFault (rowFault s k)) ≡ false = any-none _ n (λ k h. row-says s k .1 (r .row k h)) in
+        let rows : anyBelow n (λ k. isFault (rowFault s k)) ≡ false = none-any n (λ k. isFault (rowFault s k)) .1 (λ k h. row-says s k .1 (r .row k h)) in
         let w = r .whole in
         rw (read-refusal l s, start-says l s .1 (r .start), rows, end-fault s, le-ltb (offsetOf s n) (length s) (omega arith))
 
@@ -229,7 +217,7 @@ directive-list h k a = rw (le-ltb k (h .platforms) (omega arith), le-ltb _ _ a)
 module _ (b : List ℕ) where
   pub codes-18 : codesOk 18 b ≡ true → (byteAt b 47 ≤ 2) × (byteAt b 44 ≤ 7)
   unfolding codesOk
-  codes-18 e = let (v, f) = and-eq-true-iff (leb (byteAt b 47) 2) (leb (byteAt b 44) 7) .0 e in (leb-true _ _ v, leb-true _ _ f)
+  codes-18 e = let (v, f) = and-parts (leb (byteAt b 47) 2) (leb (byteAt b 44) 7) e in (leb-true _ _ v, leb-true _ _ f)
 
   pub codes-19 : codesOk 19 b ≡ true → byteAt b 30 ≤ 2
   unfolding codesOk
@@ -327,8 +315,8 @@ sheet-says l s = (there, back)
 
     there : isRefusal (sheetRefusal l s) ≡ false → Readable l s × (size ≡ 4096)
     there e =
-        let (a, b) = or-none (isRefusal (readRefusal l s)) _ (rw (else-refusal, row-refusal, page-size-fault (headOf s)) at e) in
-        let (c, z) = or-none (not (eqb size 4096)) _ b in
+        let (a, b) = or-false-parts (isRefusal (readRefusal l s)) _ (rw (else-refusal, row-refusal, page-size-fault (headOf s)) at e) in
+        let (c, z) = or-false-parts (not (eqb size 4096)) _ b in
         (a, eqb-true _ _ (not-false _ c))
 
     back : Readable l s × (size ≡ 4096) → isRefusal (sheetRefusal l s) ≡ false

@@ -1,6 +1,6 @@
 use Rattle.igvm_defs.specs.Refusals.{isFault}
 use mathlib.Core.Bool.{true, false}
-use mathlib.Core.Path.{_≡_, sym, _∙_}
+use mathlib.Core.Path.{_≡_}
 use Prim.Native.Nat.{_≤_, _-_, _<_}
 use lib.ListN.{length}
 use denote.Ref.{now}

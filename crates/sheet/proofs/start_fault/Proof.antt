@@ -1,5 +1,3 @@
-use lib.ListN.{length}
-use denote.Ref.{now}
 use borrow.Author.Tests.{lt-ltb, le-ltb}
 use Rattle.sheet.specs.Head.{startFault}
 use borrow.Author.Needs.{needs}

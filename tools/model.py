@@ -1,0 +1,189 @@
+"""The verdict of document 01 on a sheet, written from the paper alone and as plainly as it goes.
+
+It serves one purpose: `sheets.py --check` holds the lines that are written by hand beside the samples against it.
+Rows are numbered from 1 across the lists, as in the paper.
+"""
+
+import struct
+
+X64, AARCH64 = 0, 1
+CCA = 6
+PAGE = 4096
+
+
+class Refused(Exception):
+    """A refusal: number, row (0 for the whole) and detail."""
+
+
+def refuse(test, number, row=0, detail=0):
+    if test:
+        raise Refused(number, row, detail)
+
+
+# kind: list, least length of the body, whether that length is exact
+KINDS = {1: (0, 16, True), 16: (1, 12, True), 17: (1, 22, True), 18: (1, 48, True), 19: (1, 31, True)}
+KINDS |= {32: (2, 18, False), 33: (2, 12, False)}
+KINDS |= {kind: (2, 8, True) for kind in range(34, 44)}
+KINDS |= {44: (2, 17, True), 45: (2, 14, False), 46: (2, 6, False), 47: (2, 5, False), 48: (2, 5, False)}
+KINDS |= {49: (2, 6, False), 50: (2, 16, True), 51: (2, 16, True), 52: (2, 4, False), 53: (2, 4, False)}
+
+LIMITS = (16, 64, 1024)
+
+
+def read(s):
+    """The arch and the three lists of (row, kind, body). Refusals 1 to 7."""
+    refuse(len(s) < 16, 1)
+    revision, arch, zeroes, page_size, *counts, zero = struct.unpack("<BBHIHHHH", s[:16])
+    refuse(revision not in (1, 2) or arch not in (X64, AARCH64) or zeroes != 0 or zero != 0, 2)
+    refuse(revision == 1 and (arch != X64 or page_size != 0), 2)
+    refuse(any(count > limit for count, limit in zip(counts, LIMITS)) or len(s) > 16777216, 3)
+    at = 16 + 8 * sum(counts)
+    refuse(len(s) < at, 1)
+    lists = ([], [], [])
+    row = 0
+    for number, count in enumerate(counts):
+        for _ in range(count):
+            row += 1
+            kind, length = struct.unpack("<II", s[8 + 8 * row:16 + 8 * row])
+            refuse(kind not in KINDS or KINDS[kind][0] != number, 4, row)
+            _, least, exact = KINDS[kind]
+            refuse(length < least or exact and length != least, 5, row)
+            refuse(len(s) < at + length, 1, row)
+            body = s[at:at + length]
+            refuse(not codes_ok(kind, body), 5, row)
+            lists[number].append((row, kind, body))
+            at += length
+    refuse(at < len(s), 6)
+    refuse(revision == 2 and page_size != PAGE, 7, 0, page_size)
+    return arch, lists
+
+
+def codes_ok(kind, body):
+    """The VTL of 18, 19, 47, 48 up to 2, the flags of 18 up to 7, protectable (44) up to 1."""
+    if kind == 18:
+        return body[47] <= 2 and body[44] <= 7
+    if kind == 19:
+        return body[30] <= 2
+    if kind == 44:
+        return body[16] <= 1
+    return kind not in (47, 48) or body[4] <= 2
+
+
+def platform_rows(arch, rows):
+    """Refusals 8 to 15. Gives the type that counts for each mask: the last."""
+    types = []
+    of_mask = {}
+    for row, _, body in rows:
+        mask, highest_vtl, type_, version, boundary = struct.unpack("<IBBHQ", body)
+        refuse(mask.bit_count() != 1, 8, row)
+        refuse(highest_vtl not in (0, 2), 9, row)
+        refuse(type_ > 6, 12, row)
+        refuse(version != 1, 10, row)
+        refuse(type_ in (0, 1) and boundary != 0, 11, row)
+        refuse(type_ == CCA and arch != AARCH64, 13, row, type_)
+        refuse(type_ in (0, 2, 3, 4, 5) and arch != X64, 13, row, type_)
+        refuse(type_ in types, 14, row)
+        types.append(type_)
+        of_mask[mask] = type_
+    refuse(not rows, 15)
+    return of_mask
+
+
+def initialization_rows(arch, of_mask, rows):
+    """Refusals 16 to 29. Gives the regions and the page tables: mask, gpa, size, VP, VTL."""
+    regions, page_tables = [], []
+    for row, kind, body in rows:
+        if kind == 17:
+            cca_policy(arch, of_mask, row, body)
+        elif kind == 18:
+            mask, alignment, gpa, size, minimum, maximum, _, vp, vtl = struct.unpack("<IQQQQQBHB", body)
+            refuse(size % PAGE != 0, 17, row)
+            refuse(alignment % PAGE != 0, 18, row)
+            refuse(alignment == 0, 19, row)
+            for address in (gpa, minimum, maximum):
+                refuse(address % alignment != 0, 20, row, address)
+            sound(row, mask, gpa, size, regions + page_tables)
+            regions.append((mask, gpa, size, vp, vtl))
+        elif kind == 19:
+            mask, gpa, size, used, vp, vtl = struct.unpack("<IQQQHB", body)
+            refuse(gpa % PAGE != 0, 21, row, gpa)
+            refuse(size % PAGE != 0, 22, row, size)
+            refuse(used % PAGE != 0, 22, row, used)
+            refuse(used > size, 23, row)
+            refuse(any(mask & earlier[0] for earlier in page_tables), 26, row)
+            sound(row, mask, gpa, size, regions + page_tables)
+            page_tables.append((mask, gpa, size, vp, vtl))
+    return regions, page_tables
+
+
+def cca_policy(arch, of_mask, row, body):
+    mask, zeroes, ones, _ = struct.unpack("<IQQH", body)
+    refuse(zeroes & ones != 0, 16, row)
+    refuse(arch != AARCH64, 24, row, 17)
+    for bit in range(32):
+        refuse(mask & 1 << bit and of_mask.get(1 << bit) != CCA, 25, row, 1 << bit)
+
+
+def sound(row, mask, gpa, size, earlier):
+    """27, 28, 29: a region of either kind among those before it."""
+    refuse(size == 0, 27, row)
+    refuse(gpa + size > 2**64 - 1, 28, row)
+    for mask2, gpa2, size2, _, _ in earlier:
+        refuse(mask & mask2 and gpa < gpa2 + size2 and gpa2 < gpa + size, 29, row)
+
+
+def directive_rows(arch, page_tables, rows):
+    """Refusals 21, 22, 24 and 30 to 33. Gives the VBS contexts: mask, VTL."""
+    allocated, inserted = set(), set()
+    contexts = []
+    for row, kind, body in rows:
+        if kind in (32, 44, 45, 50, 51):
+            gpa, mask = struct.unpack_from("<QI", body)
+            refuse(gpa % PAGE != 0, 21, row, gpa)
+        if kind == 32:
+            refuse(struct.unpack_from("<H", body, 16)[0] > 3, 30, row)
+            refuse(len(body) - 18 > 4096, 31, row)
+        elif kind == 33:
+            size, area = struct.unpack_from("<QI", body)
+            refuse(size % PAGE != 0, 22, row, size)
+            refuse(len(body) - 12 > size, 31, row)
+            refuse(area in allocated, 32, row)
+            allocated.add(area)
+        elif 34 <= kind <= 43:
+            area, _ = struct.unpack("<II", body)
+            refuse(area not in allocated or area in inserted, 32, row)
+        elif kind == 44:
+            size = struct.unpack_from("<I", body, 12)[0]
+            refuse(size % PAGE != 0, 22, row, size)
+        elif kind in (46, 47):
+            refuse(arch != X64, 24, row, kind)
+        elif kind in (48, 49):
+            refuse(arch != AARCH64, 24, row, kind)
+        elif kind == 50:
+            area = struct.unpack_from("<I", body, 12)[0]
+            refuse(area not in allocated or area in inserted, 32, row)
+            inserted.add(area)
+            for mask2, gpa2, size2, _, _ in page_tables:
+                refuse(mask & mask2 and gpa2 <= gpa < gpa2 + size2, 33, row)
+        if kind in (47, 48):
+            contexts.append(struct.unpack_from("<IB", body))
+    return contexts
+
+
+def verdict(s):
+    """The counts of rows of an accepted sheet; else Refused is raised."""
+    arch, (platforms, initializations, directives) = read(s)
+    of_mask = platform_rows(arch, platforms)
+    regions, page_tables = initialization_rows(arch, of_mask, initializations)
+    contexts = directive_rows(arch, page_tables, directives)
+    for mask, _, _, vp, vtl in regions + page_tables:
+        refuse(vp != 0 or not any(mask & mask2 and vtl == vtl2 for mask2, vtl2 in contexts), 34)
+    return len(platforms), len(initializations), len(directives)
+
+
+def line(s):
+    """The line that `admit` writes of a sheet; a sheet of more than 65,536 bytes is answered as by the call."""
+    try:
+        return "accepted %d %d %d" % verdict(s)
+    except Refused as refusal:
+        return "refused %d row %d detail %d" % refusal.args

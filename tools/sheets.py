@@ -1,0 +1,634 @@
+#!/usr/bin/env python3
+"""Sample sheets (document 01), each with the line that `admit` has to write of it.
+
+How a sample is made: a row is made by the function of its kind, whose arguments are the fields that differ from the defaults;
+the defaults of platform(), region() and x64_vbs() are the three rows of image B. B.platforms(..), B.initializations(..) and
+B.directives(..) are B with other rows in that list, B.plus(..) is B with rows after those of their lists, and B.head(..) is B with
+other numbers in its head. A is B on AArch64. What can't be said in this way changes the bytes: bytes(B)[:-1], bytes(B) + b"x".
+
+The line beside a sample is written by hand from the paper. `--check` holds it against tools/model.py.
+
+    tools/sheets.py --check              every line against the model, and the files of the crates against the samples
+    tools/sheets.py --list               each sample's name, line and description
+    tools/sheets.py --write DIR NAME..   write these samples (no NAME: all of up to 65,536 bytes) into DIR, and print 'name: line' for each
+    tools/sheets.py --gate CRATE [DIR]   write args, data/ and stdout of the program CRATE (into DIR, else into crates/CRATE)
+"""
+
+import sys
+from dataclasses import dataclass, replace
+from pathlib import Path
+
+import model
+
+# ---- the encoder
+
+
+@dataclass(frozen=True)
+class Row:
+    kind: int
+    body: bytes
+
+
+def kind(number, layout, **defaults):
+    """The function that makes rows of this kind. `tail` is what follows the fields."""
+    sizes = {name: int(bits[1:]) // 8 for name, bits in (field.split() for field in layout.split(", "))}
+
+    def row(tail=b"", **fields):
+        values = dict.fromkeys(sizes, 0) | defaults | fields
+        assert len(values) == len(sizes), fields
+        return Row(number, b"".join(values[name].to_bytes(size, "little") for name, size in sizes.items()) + tail)
+
+    return row
+
+
+platform = kind(1, "mask u32, highest_vtl u8, type u8, version u16, boundary u64", mask=1, version=1)
+guest_policy = kind(16, "policy u64, mask u32", mask=1)
+cca_policy = kind(17, "mask u32, zeroes u64, ones u64, opaque u16", mask=1)
+region = kind(
+    18,
+    "mask u32, alignment u64, gpa u64, size u64, minimum u64, maximum u64, flags u8, vp u16, vtl u8",
+    mask=1, alignment=0x1000, gpa=0x100000, size=0x2000, maximum=0x200000,
+)
+page_table = kind(19, "mask u32, gpa u64, size u64, used u64, vp u16, vtl u8", mask=1, gpa=0x300000, size=0x2000, used=0x1000)
+page_data = kind(32, "gpa u64, mask u32, flags u32, type u16", mask=1)
+parameter_area = kind(33, "bytes u64, area u32", bytes=0x1000)
+PARAMETERS = [kind(number, "area u32, offset u32") for number in range(34, 44)]
+vp_count = PARAMETERS[0]
+required_memory = kind(44, "gpa u64, mask u32, bytes u32, protectable u8", mask=1, bytes=0x1000)
+snp_vp_context = kind(45, "gpa u64, mask u32, vp u16", mask=1)
+x64_native = kind(46, "mask u32, vp u16", mask=1)
+x64_vbs = kind(47, "mask u32, vtl u8", mask=1)
+aarch64_vbs = kind(48, "mask u32, vtl u8", mask=1)
+aarch64_cca = kind(49, "mask u32, vp u16", mask=1)
+parameter_insert = kind(50, "gpa u64, mask u32, area u32", mask=1)
+error_range = kind(51, "gpa u64, mask u32, bytes u32", mask=1)
+snp_id_block = kind(52, "mask u32", mask=1)
+vbs_measurement = kind(53, "mask u32", mask=1)
+
+
+def short(row):
+    """The row without the last byte of its body."""
+    return Row(row.kind, row.body[:-1])
+
+
+def long(row):
+    """The row with one byte more in its body."""
+    return Row(row.kind, row.body + b"\0")
+
+
+@dataclass(frozen=True)
+class Sheet:
+    lists: tuple
+    revision: int = 1
+    arch: int = 0
+    reserved: int = 0
+    page_size: int = 0
+    reserved2: int = 0
+    counts: tuple = None  # where they are not those of the lists
+
+    def with_list(self, number, rows):
+        return replace(self, lists=self.lists[:number] + (rows,) + self.lists[number + 1:])
+
+    def platforms(self, *rows):
+        return self.with_list(0, rows)
+
+    def initializations(self, *rows):
+        return self.with_list(1, rows)
+
+    def directives(self, *rows):
+        return self.with_list(2, rows)
+
+    def plus(self, *rows):
+        for row in rows:
+            number = 0 if row.kind < 16 else 1 if row.kind < 32 else 2
+            self = self.with_list(number, self.lists[number] + (row,))
+        return self
+
+    def head(self, **fields):
+        return replace(self, **fields)
+
+    def __bytes__(self):
+        numbers = [(self.revision, 1), (self.arch, 1), (self.reserved, 2), (self.page_size, 4)]
+        numbers += [(count, 2) for count in self.counts or map(len, self.lists)] + [(self.reserved2, 2)]
+        rows = sum(self.lists, ())
+        for row in rows:
+            numbers += [(row.kind, 4), (len(row.body), 4)]
+        return b"".join(value.to_bytes(size, "little") for value, size in numbers) + b"".join(row.body for row in rows)
+
+
+B = Sheet(((platform(),), (region(),), (x64_vbs(),)))
+V2 = B.head(revision=2, page_size=4096)
+A = V2.head(arch=1).platforms(platform(type=1)).directives(aarch64_vbs())
+CCA = A.platforms(platform(type=6))
+TABLE = B.plus(page_table())  # B with a page table: row 3; the context is row 4
+AREA = B.plus(parameter_area())  # B with a parameter area of index 0: row 4
+TOP = 0xFFFFFFFFFFFFF000  # the highest page
+
+
+# ---- the samples
+
+
+@dataclass(frozen=True)
+class Sample:
+    name: str
+    line: str
+    what: str
+    made: object  # a sheet, its bytes, or, for large ones, a function that gives either
+
+    def bytes(self):
+        return bytes(self.made() if callable(self.made) else self.made)
+
+
+SAMPLES = []
+
+
+def accepted(name, counts, what, made):
+    SAMPLES.append(Sample(name, f"accepted {counts}", what, made))
+
+
+def refused(name, row, detail, what, made):
+    """The name begins with the refusal's number."""
+    SAMPLES.append(Sample(name, f"refused {int(name[:2])} row {row} detail {detail}", what, made))
+
+
+accepted("b", "1 1 1", "image B", B)
+accepted("v2", "1 1 1", "B of revision 2, X64", V2)
+accepted("aarch64", "1 1 1", "B on AArch64: type 1, context of kind 48", A)
+accepted("platform-alone", "1 0 0", "a platform and nothing else", B.initializations().directives())
+
+# 1: the sheet, the table or a body ends early
+refused("01-empty", 0, 0, "empty", b"")
+refused("01-15-bytes", 0, 0, "one byte short of a head", bytes(B)[:15])
+refused("01-15-zeroes", 0, 0, "1 (under 16 bytes) before 2: revision 0", bytes(15))
+refused("01-no-table", 0, 0, "B ends after its head", bytes(B)[:16])
+refused("01-table", 0, 0, "B ends one byte before its table does", bytes(B)[:39])
+refused("01-no-bodies", 1, 0, "B ends after its table", bytes(B)[:40])
+refused("01-body-1", 1, 0, "B ends one byte before the body of row 1 does", bytes(B)[:55])
+refused("01-body-2", 2, 0, "B ends one byte before the body of row 2 does", bytes(B)[:103])
+refused("01-body-3", 3, 0, "B without its last byte", bytes(B)[:-1])
+refused("01-tail", 3, 0, "the opaque bytes of the last row end early", bytes(B.directives(x64_vbs(tail=bytes(8))))[:-1])
+refused("01-length", 3, 0, "a context of 4,294,967,295 bytes, of which 5 are there", bytes(B)[:36] + b"\xff\xff\xff\xff" + bytes(B)[40:])
+refused("01-before-codes", 2, 0, "1 before 5 (codes): flags 8, and the body ends early", bytes(B.initializations(region(flags=8)))[:103])
+refused("01-before-row-4", 3, 0, "row 3 ends early, and row 4 is of kind 0", bytes(B.directives(x64_vbs(tail=b"x"), Row(0, b"")))[:-1])
+
+# 2: the head breaks its layout
+refused("02-revision-0", 0, 0, "revision 0", B.head(revision=0))
+refused("02-revision-3", 0, 0, "revision 3", V2.head(revision=3))
+refused("02-arch", 0, 0, "arch 2", V2.head(arch=2))
+refused("02-byte-2", 0, 0, "byte 2 not zero", B.head(reserved=1))
+refused("02-byte-3", 0, 0, "byte 3 not zero", V2.head(reserved=0x100))
+refused("02-byte-14", 0, 0, "byte 14 not zero", B.head(reserved2=1))
+refused("02-byte-15", 0, 0, "byte 15 not zero", V2.head(reserved2=0x100))
+refused("02-v1-aarch64", 0, 0, "revision 1 with arch 1", A.head(revision=1, page_size=0))
+refused("02-v1-page-size", 0, 0, "revision 1 with page size 4096", B.head(page_size=4096))
+refused("02-zeroes", 0, 0, "16 zero bytes", bytes(16))
+refused("02-before-03", 0, 0, "revision 0, and 65 initialization rows", B.head(revision=0).initializations(*[guest_policy()] * 65))
+refused("02-v1-before-03", 0, 0, "revision 1 with page size 4096, and 17 platform rows", B.head(page_size=4096).platforms(*[platform()] * 17))
+refused("02-before-01", 0, 0, "revision 0, and no table", bytes(B.head(revision=0))[:16])
+
+# 3: over a limit
+refused("03-17-platforms", 0, 0, "17 platform rows", B.platforms(*[platform()] * 17))
+refused("14-16-platforms", 2, 0, "16 platform rows are within the limit; their types repeat", B.platforms(*[platform()] * 16))
+refused("03-65-initializations", 0, 0, "65 initialization rows", B.initializations(*[guest_policy()] * 65))
+accepted("64-initializations", "1 64 1", "64 initialization rows", B.initializations(*[guest_policy()] * 64))
+refused("03-1025-directives", 0, 0, "1,025 directive rows", B.directives(*[x64_vbs()] * 1025))
+accepted("1024-directives", "1 1 1024", "1,024 directive rows", B.directives(*[x64_vbs()] * 1024))
+refused("03-before-01", 0, 0, "65 initialization rows by the head, and no table", bytes(B.head(counts=(1, 65, 1)))[:16])
+refused("03-counts", 0, 0, "65,535 rows in each list by the head", bytes(B.head(counts=(65535, 65535, 65535))))
+
+# 4: a kind not of its list
+refused("04-kind-0", 1, 0, "row 1 of kind 0", B.platforms(Row(0, platform().body)))
+refused("04-kind-2", 1, 0, "row 1 of kind 2", B.platforms(Row(2, platform().body)))
+refused("04-kind-257", 1, 0, "row 1 of kind 257: all four bytes count", B.platforms(Row(257, platform().body)))
+refused("04-kind-15", 2, 0, "row 2 of kind 15", B.initializations(Row(15, b"")))
+refused("04-kind-20", 2, 0, "row 2 of kind 20", B.initializations(Row(20, b"")))
+refused("04-kind-31", 3, 0, "row 3 of kind 31", B.directives(Row(31, b"")))
+refused("04-kind-54", 3, 0, "row 3 of kind 54", B.directives(Row(54, b"")))
+refused("04-kind-4294967295", 3, 0, "row 3 of the highest kind", B.directives(Row(0xFFFFFFFF, b"")))
+refused("04-initialization-first", 1, 0, "an initialization row among the platforms", B.platforms(guest_policy()))
+refused("04-platform-late", 2, 0, "a platform row among the initializations", B.initializations(platform()))
+refused("04-directive-early", 2, 0, "a directive row among the initializations", B.initializations(x64_vbs()))
+refused("04-initialization-late", 3, 0, "an initialization row among the directives", B.directives(guest_policy()))
+refused("04-counts", 2, 0, "B whose head says two platforms and one directive", B.head(counts=(2, 0, 1)))
+refused("04-before-05", 2, 0, "a directive row among the initializations, its body too short", B.initializations(short(x64_vbs())))
+refused("04-before-01", 3, 0, "kind 54, and the sheet ends early", bytes(B.directives(Row(54, bytes(9))))[:-1])
+refused("04-row-1", 1, 0, "row 1 of kind 0, row 2 with VTL 3", B.platforms(Row(0, b"")).initializations(region(vtl=3)))
+
+# 5: body length, then codes
+EXACT = [platform, guest_policy, cca_policy, region, page_table, *PARAMETERS, required_memory, parameter_insert, error_range]
+OPEN = [page_data, parameter_area, snp_vp_context, x64_native, x64_vbs, aarch64_vbs, aarch64_cca, snp_id_block, vbs_measurement]
+for make in EXACT + OPEN:
+    row = make()
+    # the row stands alone in its list, behind one row in each earlier list
+    at, into = (1, B.platforms) if row.kind < 16 else (2, B.initializations) if row.kind < 32 else (3, B.directives)
+    refused(f"05-kind-{row.kind}-short", at, 0, f"a body of kind {row.kind} that is one byte too short", into(short(row)))
+    if make in EXACT:
+        refused(f"05-kind-{row.kind}-long", at, 0, f"a body of kind {row.kind} that is one byte too long", into(long(row)))
+refused("05-empty-body", 3, 0, "a context with no body", B.directives(Row(47, b"")))
+refused("05-vtl-18", 2, 0, "region, VTL 3", B.initializations(region(vtl=3)))
+refused("05-vtl-19", 3, 0, "page table, VTL 3", B.plus(page_table(vtl=3)))
+refused("05-vtl-47", 3, 0, "context of kind 47, VTL 3", B.directives(x64_vbs(vtl=3)))
+refused("05-vtl-48", 3, 0, "context of kind 48, VTL 3", A.directives(aarch64_vbs(vtl=3)))
+refused("05-vtl-255", 3, 0, "context, VTL 255", B.directives(x64_vbs(vtl=255)))
+refused("05-flags", 2, 0, "region, flags 8", B.initializations(region(flags=8)))
+refused("05-protectable", 4, 0, "protectable 2", B.plus(required_memory(protectable=2)))
+accepted("vtl-2", "1 2 1", "region, page table and context, VTL 2", B.initializations(region(vtl=2), page_table(vtl=2)).directives(x64_vbs(vtl=2)))
+accepted("vtl-2-aarch64", "1 1 1", "region and context of kind 48, VTL 2", A.initializations(region(vtl=2)).directives(aarch64_vbs(vtl=2)))
+accepted("flags-7", "1 1 1", "region, flags 7", B.initializations(region(flags=7)))
+accepted("protectable-1", "1 1 2", "protectable 1", B.plus(required_memory(protectable=1)))
+accepted("page-flags", "1 1 2", "the flags of a page are free", B.plus(page_data(flags=0xFFFFFFFF)))
+refused("05-before-01", 2, 0, "5 (length) before 1: the body of row 2 is too long, and cut", bytes(B.initializations(long(region())))[:60])
+refused("05-least-before-01", 3, 0, "the body of row 3 is below the least, and cut", bytes(B.directives(short(x64_vbs())))[:-1])
+refused("05-before-06", 3, 0, "VTL 3, and one byte more", bytes(B.directives(x64_vbs(vtl=3))) + b"\0")
+refused("05-row-1", 1, 0, "the body of row 1 is too short, row 2 is of kind 0", B.platforms(short(platform())).initializations(Row(0, b"")))
+refused("05-row-2", 2, 0, "5 (codes) of row 2 before 4 of row 3", B.initializations(region(vtl=3)).directives(Row(0, b"")))
+refused("05-before-08", 3, 0, "VTL 3 in row 3, platform mask 3", B.platforms(platform(mask=3)).directives(x64_vbs(vtl=3)))
+
+# 6: bytes left over; 7: page size
+refused("06-byte", 0, 0, "one byte more", bytes(B) + b"\0")
+refused("06-before-07", 0, 0, "one byte more, and page size 8192", bytes(V2.head(page_size=8192)) + b"\0")
+refused("06-before-15", 0, 0, "no rows, and one byte more", bytes(Sheet(((), (), ()))) + b"\0")
+refused("07-8192", 0, 8192, "revision 2, page size 8192", V2.head(page_size=8192))
+refused("07-0", 0, 0, "revision 2, page size 0", V2.head(page_size=0))
+refused("07-4095", 0, 4095, "page size 4095", V2.head(page_size=4095))
+refused("07-4097", 0, 4097, "page size 4097", V2.head(page_size=4097))
+refused("07-4294967295", 0, 4294967295, "the highest page size", A.head(page_size=0xFFFFFFFF))
+refused("07-before-08", 0, 8192, "page size 8192, platform mask 3", V2.head(page_size=8192).platforms(platform(mask=3)))
+refused("07-before-15", 0, 8192, "page size 8192, no platform", V2.head(page_size=8192).platforms())
+
+# 8 to 15: platform rows
+refused("08-mask-3", 1, 0, "mask 3", B.platforms(platform(mask=3)))
+refused("08-mask-0", 1, 0, "mask 0", B.platforms(platform(mask=0)))
+refused("08-mask-80000001", 1, 0, "the highest and the lowest bit", B.platforms(platform(mask=0x80000001)))
+accepted("mask-80000000", "1 1 1", "the highest mask bit", B.platforms(platform(mask=0x80000000)))
+refused("08-before-09", 1, 0, "mask 3, highest VTL 1", B.platforms(platform(mask=3, highest_vtl=1)))
+refused("08-before-14", 2, 0, "row 2: mask 3, and row 1's type", B.plus(platform(mask=3)))
+accepted("highest-vtl-2", "1 1 1", "highest VTL 2", B.platforms(platform(highest_vtl=2)))
+refused("09-highest-vtl-1", 1, 0, "highest VTL 1", B.platforms(platform(highest_vtl=1)))
+refused("09-highest-vtl-3", 1, 0, "highest VTL 3: 9, not 5", B.platforms(platform(highest_vtl=3)))
+refused("09-highest-vtl-255", 1, 0, "highest VTL 255", B.platforms(platform(highest_vtl=255)))
+refused("09-before-12", 1, 0, "highest VTL 1, type 7", B.platforms(platform(highest_vtl=1, type=7)))
+refused("12-type-7", 1, 0, "type 7", B.platforms(platform(type=7)))
+refused("12-type-255", 1, 0, "type 255", B.platforms(platform(type=255)))
+refused("12-before-10", 1, 0, "type 7, version 2", B.platforms(platform(type=7, version=2)))
+for type_ in range(6):
+    refused(f"10-type-{type_}", 1, 0, f"type {type_}, version 2", B.platforms(platform(type=type_, version=2)))
+refused("10-type-6", 1, 0, "type 6 on AArch64, version 2", A.platforms(platform(type=6, version=2)))
+refused("10-version-0", 1, 0, "version 0", B.platforms(platform(version=0)))
+refused("10-version-257", 1, 0, "version 257: both bytes count", B.platforms(platform(version=257)))
+refused("10-before-11", 1, 0, "version 2, boundary 4096", B.platforms(platform(version=2, boundary=4096)))
+refused("10-before-13", 1, 0, "type 6 on X64, version 2", B.platforms(platform(type=6, version=2)))
+refused("11-type-0", 1, 0, "boundary 4096", B.platforms(platform(boundary=4096)))
+refused("11-type-1", 1, 0, "type 1, boundary 1", B.platforms(platform(type=1, boundary=1)))
+refused("11-high", 1, 0, "boundary 2^63", B.platforms(platform(boundary=2**63)))
+refused("11-before-13", 1, 0, "type 0 on AArch64, boundary 4096", A.platforms(platform(boundary=4096)))
+refused("11-before-14", 2, 0, "row 2: boundary 4096, and row 1's type", B.plus(platform(boundary=4096)))
+accepted("boundary", "4 1 1", "types 2 to 5 may have a boundary", B.platforms(*[platform(type=type_, boundary=4096) for type_ in (2, 3, 4, 5)]))
+accepted("boundary-cca", "1 1 1", "type 6 may have a boundary", A.platforms(platform(type=6, boundary=4096)))
+refused("13-type-6", 1, 6, "type 6 on X64", B.platforms(platform(type=6)))
+for type_ in (0, 2, 3, 4, 5):
+    refused(f"13-type-{type_}", 1, type_, f"type {type_} on AArch64", A.platforms(platform(type=type_)))
+SIX = [platform(type=type_, mask=1 << type_) for type_ in range(6)]
+TWO = [platform(type=1), platform(type=6, mask=2)]
+accepted("x64-types", "6 1 1", "every type of X64, each with a mask of its own", B.platforms(*SIX))
+accepted("aarch64-types", "2 1 1", "both types of AArch64", A.platforms(*TWO))
+refused("14-twice", 2, 0, "row 1 twice", B.plus(platform()))
+refused("14-other-mask", 2, 0, "row 1's type with another mask", B.plus(platform(mask=2)))
+refused("14-third", 3, 0, "row 3 repeats row 1's type", B.plus(platform(type=1), platform(highest_vtl=2)))
+refused("14-row-2", 2, 0, "row 2 repeats a type, row 3 has mask 3", B.plus(platform(), platform(mask=3)))
+refused("10-row-2", 2, 0, "version 2 in row 2, type 7 in row 3", B.plus(platform(type=1, version=2), platform(type=7)))
+refused("08-before-19", 1, 0, "platform mask 3, region alignment 0", B.platforms(platform(mask=3)).initializations(region(alignment=0)))
+refused("15-no-rows", 0, 0, "counts 0, no rows", Sheet(((), (), ())))
+refused("15-no-platform", 0, 0, "B without its platform", B.platforms())
+refused("15-before-19", 0, 0, "no platform, region alignment 0", B.platforms().initializations(region(alignment=0)))
+
+# 16, 24, 25: CcaPolicy
+refused("16-b", 2, 0, "zeroes 1 and ones 1; 16 before 24 (X64)", B.initializations(cca_policy(zeroes=1, ones=1)))
+refused("16-cca", 3, 0, "zeroes 7 and ones 4", CCA.plus(cca_policy(zeroes=7, ones=4)))
+refused("16-high", 3, 0, "the highest bit in both", CCA.plus(cca_policy(zeroes=2**63, ones=2**63)))
+refused("16-before-25", 3, 0, "zeroes 1 and ones 1, and no CCA", A.plus(cca_policy(zeroes=1, ones=1)))
+accepted("policy", "1 2 1", "zeroes 1 and ones 2", CCA.plus(cca_policy(zeroes=1, ones=2, opaque=0xFFFF)))
+refused("24-kind-17", 2, 17, "CcaPolicy on X64; 24 before 25", B.initializations(cca_policy()))
+refused("25-type-1", 3, 1, "AArch64, type 1", A.plus(cca_policy()))
+refused("25-no-platform", 3, 2, "mask 3, CCA at bit 0 alone", CCA.plus(cca_policy(mask=3)))
+refused("25-lowest", 4, 1, "mask 7, CCA at bit 1 alone: the lowest failing bit", A.platforms(*TWO).plus(cca_policy(mask=7)))
+refused("25-high", 3, 2147483648, "the highest bit without CCA", CCA.plus(cca_policy(mask=0x80000001)))
+accepted("policy-last", "2 2 1", "two platforms of one mask, the last is CCA", A.plus(platform(type=6), cca_policy()))
+refused("25-last", 4, 1, "two platforms of one mask, the first is CCA", CCA.plus(platform(type=1), cca_policy()))
+accepted("policy-mask-0", "1 2 1", "a CcaPolicy of mask 0 has no bit without CCA", A.plus(cca_policy(mask=0)))
+refused("25-before-19", 2, 1, "row 2: no CCA, row 3: alignment 0", A.initializations(cca_policy(), region(alignment=0)))
+
+# 17 to 20: relocatable region
+refused("17-size", 2, 0, "size 0x2001", B.initializations(region(size=0x2001)))
+refused("17-before-18", 2, 0, "size 0x2001, alignment 0x800", B.initializations(region(size=0x2001, alignment=0x800)))
+refused("17-before-19", 2, 0, "size 1, alignment 0", B.initializations(region(size=1, alignment=0)))
+refused("18-800", 2, 0, "alignment 0x800", B.initializations(region(alignment=0x800)))
+refused("18-1001", 2, 0, "alignment 0x1001", B.initializations(region(alignment=0x1001)))
+refused("18-before-20", 2, 0, "alignment 0x800, gpa 0x100400", B.initializations(region(alignment=0x800, gpa=0x100400)))
+refused("18-before-27", 2, 0, "alignment 0x800, size 0", B.initializations(region(alignment=0x800, size=0)))
+refused("19-alignment", 2, 0, "alignment 0", B.initializations(region(alignment=0)))
+refused("19-before-20", 2, 0, "alignment 0, gpa 1", B.initializations(region(alignment=0, gpa=1)))
+refused("19-before-27", 2, 0, "alignment 0, size 0", B.initializations(region(alignment=0, size=0)))
+refused("20-gpa", 2, 0x100800, "gpa 0x100800", B.initializations(region(gpa=0x100800)))
+refused("20-minimum", 2, 0x800, "minimum 0x800", B.initializations(region(minimum=0x800)))
+refused("20-maximum", 2, 2**64 - 1, "maximum 2^64 - 1", B.initializations(region(maximum=2**64 - 1)))
+refused("20-gpa-first", 2, 1, "gpa 1, minimum 2, maximum 3", B.initializations(region(gpa=1, minimum=2, maximum=3)))
+refused("20-minimum-first", 2, 2, "minimum 2, maximum 3", B.initializations(region(minimum=2, maximum=3)))
+refused("20-alignment", 2, 0x101000, "alignment 0x2000, gpa 0x101000", B.initializations(region(alignment=0x2000, gpa=0x101000)))
+refused("20-3000", 2, 0x100000, "alignment 0x3000, gpa 0x100000", B.initializations(region(alignment=0x3000, maximum=0x300000)))
+accepted("alignment-3000", "1 1 1", "alignment 0x3000, no power of two", B.initializations(region(alignment=0x3000, gpa=0x300000, maximum=0x600000)))
+accepted("alignment-large", "1 1 1", "alignment 2^63, gpa 0", B.initializations(region(alignment=2**63, gpa=0, maximum=2**63)))
+accepted("minimum-above", "1 1 1", "minimum above maximum", B.initializations(region(minimum=0x201000)))
+refused("20-before-27", 2, 0x100800, "gpa 0x100800, size 0", B.initializations(region(gpa=0x100800, size=0)))
+refused("20-before-28", 2, 2**64 - 0x800, "gpa 2^64 - 0x800", B.initializations(region(gpa=2**64 - 0x800)))
+refused("17-row-2", 2, 0, "size 0x2001 in row 2, zeroes and ones in row 3", B.initializations(region(size=0x2001), cca_policy(zeroes=1, ones=1)))
+
+# 21 to 23, 26: page table
+accepted("page-table", "1 2 1", "B with a page table", TABLE)
+refused("21-page-table", 3, 1, "page-table gpa 1", B.plus(page_table(gpa=1)))
+refused("21-before-22", 3, 1, "gpa 1, size 2", B.plus(page_table(gpa=1, size=2)))
+refused("22-size", 3, 1, "page-table size 1", B.plus(page_table(size=1)))
+refused("22-used", 3, 1, "used 1", B.plus(page_table(used=1)))
+refused("22-size-first", 3, 2, "size 2, used 1", B.plus(page_table(size=2, used=1)))
+refused("22-before-23", 3, 0x2001, "size 0x2000, used 0x2001", B.plus(page_table(used=0x2001)))
+refused("23-used", 3, 0, "used 0x2000, size 0x1000", B.plus(page_table(used=0x2000, size=0x1000)))
+refused("23-before-26", 4, 0, "a second page table of mask 1, used above size", TABLE.plus(page_table(gpa=0x400000, used=0x3000)))
+refused("23-before-27", 3, 0, "size 0, used 0x1000", B.plus(page_table(size=0)))
+accepted("used-0", "1 2 1", "used size 0", B.plus(page_table(used=0)))
+accepted("used-size", "1 2 1", "used size = size", B.plus(page_table(used=0x2000)))
+refused("26-two", 4, 0, "two page tables of mask 1", TABLE.plus(page_table(gpa=0x400000)))
+refused("26-shared-bit", 4, 0, "page tables of masks 3 and 6", B.plus(page_table(mask=3), page_table(mask=6, gpa=0x400000)))
+refused("26-third", 5, 0, "page tables of masks 1, 2, 1", TABLE.plus(page_table(mask=2), page_table(gpa=0x400000)))
+accepted("two-page-tables", "1 3 1", "page tables of masks 1 and 2 at one place", TABLE.directives(x64_vbs(mask=3)).plus(page_table(mask=2)))
+refused("26-before-27", 4, 0, "a second page table of mask 1, size 0", TABLE.plus(page_table(gpa=0x400000, size=0, used=0)))
+refused("26-before-28", 4, 0, "a second page table of mask 1 at the highest page", TABLE.plus(page_table(gpa=TOP)))
+refused("26-before-29", 4, 0, "the same page table twice", TABLE.plus(page_table()))
+
+# 27 to 29: regions of either kind
+refused("27-size-0", 2, 0, "size 0", B.initializations(region(size=0)))
+refused("27-page-table", 3, 0, "page-table size 0", B.plus(page_table(size=0, used=0)))
+refused("27-mask-0", 3, 0, "a region of mask 0 and size 0", B.plus(region(mask=0, size=0)))
+refused("27-before-29", 3, 0, "a region of size 0 within another", B.plus(region(gpa=0x101000, size=0)))
+refused("28-region", 2, 0, "gpa 0xFFFFFFFFFFFFE000, size 0x2000: the sum is 2^64", B.initializations(region(gpa=TOP - 0x1000)))
+accepted("top", "1 1 1", "gpa 0xFFFFFFFFFFFFD000: the sum is one page below 2^64", B.initializations(region(gpa=TOP - 0x2000)))
+refused("28-page-table", 3, 0, "the same for a page table", B.plus(page_table(gpa=TOP - 0x1000)))
+accepted("top-page-table", "1 2 1", "a page table whose sum is one page below 2^64", B.plus(page_table(gpa=TOP - 0x2000)))
+refused("28-both-large", 2, 0, "gpa and size both the highest", B.initializations(region(gpa=TOP, size=TOP)))
+refused("28-large-size", 2, 0, "gpa 0x1000, size 2^64 - 0x1000", B.initializations(region(gpa=0x1000, size=TOP)))
+accepted("large-size", "1 1 1", "gpa 0, size 2^64 - 0x1000", B.initializations(region(gpa=0, size=TOP)))
+refused("28-mask-0", 3, 0, "a region of mask 0 at the highest page", B.plus(region(mask=0, gpa=TOP)))
+refused("28-before-29", 3, 0, "a second region that reaches 2^64 and overlaps", B.initializations(region(gpa=TOP - 0x2000), region(gpa=TOP - 0x1000)))
+refused("29-region", 3, 0, "second region at 0x101000", B.plus(region(gpa=0x101000)))
+accepted("second-region", "1 2 1", "second region at 0x102000", B.plus(region(gpa=0x102000)))
+refused("29-below", 3, 0, "second region at 0xFF000", B.plus(region(gpa=0xFF000)))
+accepted("second-below", "1 2 1", "second region at 0xFE000", B.plus(region(gpa=0xFE000)))
+refused("29-same", 3, 0, "row 2 twice", B.plus(region()))
+refused("29-around", 3, 0, "second region from 0xFF000 to 0x103000", B.plus(region(gpa=0xFF000, size=0x4000)))
+refused("29-within", 3, 0, "second region of one page within the first", B.initializations(region(size=0x4000), region(gpa=0x101000, size=0x1000)))
+refused("29-third", 4, 0, "row 4 overlaps row 2, not row 3", B.plus(region(gpa=0x104000), region(gpa=0x101000)))
+refused("29-shared-bit", 3, 0, "masks 3 and 6 share a bit", B.initializations(region(mask=3), region(mask=6)).directives(x64_vbs(mask=7)))
+accepted("apart-by-mask", "1 2 1", "regions of masks 1 and 2 at one place", B.plus(region(mask=2)).directives(x64_vbs(mask=3)))
+refused("29-page-table-after", 3, 0, "a page table in the region", B.plus(page_table(gpa=0x101000)))
+refused("29-page-table-before", 3, 0, "a region in the page table", B.initializations(page_table(), region(gpa=0x301000)))
+refused("29-row-3", 3, 0, "row 3 overlaps, row 4 has size 0x2001", B.plus(region(gpa=0x101000), region(gpa=0x104000, size=0x2001)))
+refused("29-before-21", 3, 0, "row 3 overlaps, a page at gpa 1", B.plus(region(gpa=0x101000), page_data(gpa=1)))
+refused("34-mask-0-overlaps", 0, 0, "a region of mask 0 overlaps none, and has no context", B.plus(region(mask=0)))
+
+# 21, 22, 30, 31: directive rows by themselves
+accepted("every-x64-kind", "1 3 20", "a row of every kind that X64 takes, each body of least length", B.plus(
+    guest_policy(), page_table(), page_data(), parameter_area(), *[make() for make in PARAMETERS],
+    required_memory(), snp_vp_context(), x64_native(), parameter_insert(), error_range(), snp_id_block(), vbs_measurement(),
+))
+accepted("every-aarch64-kind", "1 4 20", "a row of every kind that AArch64 takes", CCA.plus(
+    cca_policy(), guest_policy(), page_table(), page_data(), parameter_area(), *[make() for make in PARAMETERS],
+    required_memory(), snp_vp_context(), aarch64_cca(), parameter_insert(), error_range(), snp_id_block(), vbs_measurement(),
+))
+accepted("opaque", "1 1 6", "opaque bytes of any length", B.plus(
+    snp_vp_context(tail=bytes(range(256))), x64_native(tail=b"x"), x64_vbs(tail=b"xyz"),
+    snp_id_block(tail=bytes(5)), vbs_measurement(tail=b"\xff" * 300),
+))
+accepted("opaque-aarch64", "1 1 3", "the same in kinds 48 and 49", A.plus(aarch64_vbs(tail=b"xyz"), aarch64_cca(tail=b"x")))
+for make in (page_data, required_memory, snp_vp_context, parameter_insert, error_range):
+    refused(f"21-kind-{make().kind}", 4, 0x1800, f"kind {make().kind}, gpa 0x1800", B.plus(make(gpa=0x1800)))
+refused("21-high", 4, 2**64 - 1, "gpa 2^64 - 1", B.plus(page_data(gpa=2**64 - 1)))
+accepted("page-top", "1 1 2", "a page at the highest page", B.plus(page_data(gpa=TOP)))
+refused("30-type-4", 4, 0, "page type 4", B.plus(page_data(type=4)))
+refused("30-type-256", 4, 0, "page type 256: both bytes count", B.plus(page_data(type=256)))
+accepted("page-types", "1 1 5", "page types 0 to 3", B.plus(*[page_data(type=type_) for type_ in range(4)]))
+refused("21-before-30", 4, 1, "gpa 1, page type 4", B.plus(page_data(gpa=1, type=4)))
+refused("30-before-31", 4, 0, "page type 4, 4,097 bytes", B.plus(page_data(type=4, tail=bytes(4097))))
+refused("31-page", 4, 0, "4,097 bytes", B.plus(page_data(tail=bytes(4097))))
+accepted("page-4096", "1 1 2", "4,096 bytes", B.plus(page_data(tail=bytes(4096))))
+refused("22-area", 4, 1, "area of 1 byte", B.plus(parameter_area(bytes=1)))
+refused("22-area-high", 4, 2**64 - 1, "area of 2^64 - 1 bytes", B.plus(parameter_area(bytes=2**64 - 1)))
+refused("22-memory", 4, 0xFFFFFFFF, "RequiredMemory of 4,294,967,295 bytes", B.plus(required_memory(bytes=0xFFFFFFFF)))
+refused("21-before-22-memory", 4, 1, "RequiredMemory at gpa 1, of 2 bytes", B.plus(required_memory(gpa=1, bytes=2)))
+refused("22-before-31", 4, 1, "area of 1 byte, 2 bytes of data", B.plus(parameter_area(bytes=1, tail=bytes(2))))
+refused("31-area", 4, 0, "4,097 bytes in an area of 4,096", B.plus(parameter_area(tail=bytes(4097))))
+accepted("area-4096", "1 1 2", "4,096 bytes in an area of 4,096", B.plus(parameter_area(tail=bytes(4096))))
+accepted("area-4097", "1 1 2", "4,097 bytes in an area of 8,192: 4,096 is a page's limit", B.plus(parameter_area(bytes=0x2000, tail=bytes(4097))))
+refused("31-area-0", 4, 0, "1 byte in an area of 0", B.plus(parameter_area(bytes=0, tail=b"x")))
+accepted("area-0", "1 1 2", "an area of 0 bytes", B.plus(parameter_area(bytes=0)))
+accepted("area-large", "1 1 2", "an area of 2^64 - 0x1000 bytes", B.plus(parameter_area(bytes=TOP, tail=b"x")))
+refused("31-before-32", 5, 0, "area 0 again, its data over the area", AREA.plus(parameter_area(bytes=0, tail=b"x")))
+accepted("error-range", "1 1 2", "the bytes of an ErrorRange are free", B.plus(error_range(bytes=1)))
+
+# 24: kind against arch
+refused("24-kind-48", 3, 48, "kind 48 on X64", B.directives(aarch64_vbs()))
+refused("24-kind-49", 4, 49, "kind 49 on X64", B.plus(aarch64_cca()))
+refused("24-kind-46", 4, 46, "kind 46 on AArch64", A.plus(x64_native()))
+refused("24-kind-47", 4, 47, "kind 47 on AArch64", A.plus(x64_vbs()))
+refused("24-row-3", 3, 48, "row 3 of kind 48, row 4 at gpa 1", B.directives(aarch64_vbs(), page_data(gpa=1)))
+refused("21-row-4", 4, 1, "row 4 at gpa 1, row 5 of kind 48", B.plus(page_data(gpa=1), aarch64_vbs()))
+
+# 32: area indexes
+for make in PARAMETERS:
+    refused(f"32-kind-{make().kind}", 4, 0, f"kind {make().kind}, no area", B.plus(make()))
+refused("32-insert", 4, 0, "insert, no area", B.plus(parameter_insert()))
+refused("32-other-index", 5, 0, "area 0, and area 1 named", AREA.plus(vp_count(area=1)))
+refused("32-too-early", 4, 0, "an area named a row before it is allocated", B.plus(vp_count(), parameter_area()))
+refused("32-twice", 5, 0, "area 0 allocated twice", AREA.plus(parameter_area()))
+refused("32-named-late", 6, 0, "named after the insert", AREA.plus(parameter_insert(), vp_count()))
+refused("32-inserted-twice", 6, 0, "inserted twice", AREA.plus(parameter_insert(), parameter_insert(gpa=0x1000)))
+refused("32-again", 6, 0, "allocated again after the insert", AREA.plus(parameter_insert(), parameter_area()))
+accepted("areas", "1 1 8", "two areas, named and inserted in turn", B.plus(
+    parameter_area(area=7), parameter_area(area=0xFFFFFFFF), vp_count(area=7), vp_count(area=0xFFFFFFFF, offset=0xFFFFFFFF),
+    parameter_insert(area=7), vp_count(area=0xFFFFFFFF), parameter_insert(area=0xFFFFFFFF),
+))
+refused("32-one-inserted", 7, 0, "area 1 inserted and named again, area 0 not", AREA.plus(
+    parameter_area(area=1), parameter_insert(area=1), vp_count(area=1)
+))
+refused("21-before-32", 4, 1, "insert at gpa 1, no area", B.plus(parameter_insert(gpa=1)))
+refused("32-row-4", 4, 0, "row 4 names no area, row 5 has page type 4", B.plus(vp_count(), page_data(type=4)))
+
+# 33: insert in a page table
+IN_TABLE = TABLE.plus(parameter_area())  # the area is row 5
+refused("33-gpa", 6, 0, "insert at the page table's gpa", IN_TABLE.plus(parameter_insert(gpa=0x300000)))
+refused("33-last", 6, 0, "insert at its last page, past its used size", IN_TABLE.plus(parameter_insert(gpa=0x301000)))
+accepted("insert-behind", "1 2 3", "insert just behind the page table", IN_TABLE.plus(parameter_insert(gpa=0x302000)))
+accepted("insert-before", "1 2 3", "insert just before the page table", IN_TABLE.plus(parameter_insert(gpa=0x2FF000)))
+accepted("insert-other-mask", "1 2 3", "insert of mask 2 in a page table of mask 1", IN_TABLE.plus(parameter_insert(gpa=0x300000, mask=2)))
+accepted("insert-mask-0", "1 2 3", "insert of mask 0 in a page table", IN_TABLE.plus(parameter_insert(gpa=0x300000, mask=0)))
+accepted("insert-in-region", "1 1 3", "insert in a relocatable region", AREA.plus(parameter_insert(gpa=0x100000)))
+refused("33-second-table", 7, 0, "insert of mask 2 in the second page table", IN_TABLE.plus(
+    page_table(mask=2, gpa=0x400000), parameter_insert(gpa=0x401000, mask=2)
+))
+refused("21-before-33", 6, 0x300001, "insert at 0x300001, in the page table", IN_TABLE.plus(parameter_insert(gpa=0x300001)))
+refused("32-before-33", 5, 0, "insert in the page table, no area", TABLE.plus(parameter_insert(gpa=0x300000)))
+refused("33-row-6", 6, 0, "row 6 in the page table, row 7 inserts again", IN_TABLE.plus(parameter_insert(gpa=0x300000), parameter_insert()))
+
+# 34: a region without its context
+refused("34-mask", 0, 0, "context mask 2", B.directives(x64_vbs(mask=2)))
+refused("34-none", 0, 0, "no context", B.directives())
+refused("34-vp", 0, 0, "region, VP 1", B.initializations(region(vp=1)))
+refused("34-vp-256", 0, 0, "region, VP 256: both bytes count", B.initializations(region(vp=256)))
+refused("34-vtl", 0, 0, "region of VTL 0, context of VTL 1", B.directives(x64_vbs(vtl=1)))
+refused("34-page-table", 0, 0, "page table of VTL 1, context of VTL 0", B.plus(page_table(vtl=1)))
+refused("34-page-table-vp", 0, 0, "page table, VP 1", B.plus(page_table(vp=1)))
+refused("34-mask-0", 0, 0, "a region of mask 0 shares a bit with no context", B.plus(region(mask=0, gpa=0x400000)))
+refused("34-page-table-mask-0", 0, 0, "a page table of mask 0", B.plus(page_table(mask=0)))
+refused("34-native", 0, 0, "a context of kind 46 is no VBS context", B.directives(x64_native()))
+refused("34-cca", 0, 0, "a context of kind 49 is no VBS context", A.directives(aarch64_cca()))
+refused("34-two-contexts", 0, 0, "region mask 4, contexts of masks 1 and 2", B.initializations(region(mask=4)).plus(x64_vbs(mask=2)))
+refused("34-crossed", 0, 0, "mask 1 at VTL 1 and mask 2 at VTL 0 for a region of mask 1, VTL 0", B.directives(x64_vbs(vtl=1), x64_vbs(mask=2)))
+refused("34-second", 0, 0, "the second of two regions has no context", B.plus(region(gpa=0x102000, vtl=1)))
+accepted("mask-3", "1 1 1", "region mask 3, context mask 1: one shared bit is enough", B.initializations(region(mask=3)))
+accepted("vtls", "1 3 3", "a region of each VTL, a context for each", B.plus(
+    region(gpa=0x102000, vtl=1), region(gpa=0x104000, vtl=2)
+).directives(x64_vbs(vtl=2), x64_vbs(vtl=0), x64_vbs(vtl=1)))
+accepted("context-late", "1 1 3", "the context behind other rows", B.directives(parameter_area(), page_data(), x64_vbs()))
+refused("32-before-34", 4, 0, "34 last: context mask 2, and row 4 names no area", B.directives(x64_vbs(mask=2), vp_count()))
+
+# the largest lists
+SIXTY_FOUR = [region(gpa=0x2000 * number, maximum=TOP) for number in range(64)]
+FULL = B.platforms(*SIX).initializations(*SIXTY_FOUR)
+NAMING = [row for area in range(256) for row in (
+    parameter_area(area=area), PARAMETERS[area % 10](area=area), PARAMETERS[9 - area % 10](area=area), parameter_insert(area=area)
+)]
+accepted("largest-lists", "6 64 1024", "as many rows as can be accepted: X64 has six types", FULL.directives(*[page_data()] * 1023, x64_vbs()))
+refused("34-largest-lists", 0, 0, "the same, the last region without its context", FULL.initializations(
+    *SIXTY_FOUR[:-1], region(gpa=0x7E000, vtl=1)
+).directives(*[x64_vbs()] * 1024))
+refused("29-64-regions", 65, 0, "64 regions, the last overlaps the first", B.initializations(*SIXTY_FOUR[:-1], region(gpa=0x1000, size=0x1000)))
+accepted("1024-areas", "1 0 1024", "1,024 rows naming 256 areas, each allocated, named twice and inserted", B.initializations().directives(*NAMING))
+refused("32-1024-areas", 1025, 0, "the same, the last row names the first area again", B.initializations().directives(*NAMING[:-1], vp_count(area=0)))
+
+# Of more than 65,536 bytes the line is that of the call; `admit` refuses them all by 3.
+LIMIT = 16777216
+
+
+def of_length(length, sheet=B):
+    """The sheet with as many opaque bytes in its last row, a context, as the length asks."""
+    *rows, last = sheet.lists[2]
+    return sheet.directives(*rows, Row(last.kind, last.body + bytes(length - len(bytes(sheet)))))
+
+
+accepted("65536-bytes", "1 1 1", "B of 65,536 bytes", lambda: of_length(65536))
+accepted("65537-bytes", "1 1 1", "B of 65,537 bytes", lambda: of_length(65537))
+accepted("largest-sheet", "6 64 1024", "the largest lists in 16,777,216 bytes, every page full", lambda: of_length(
+    LIMIT, FULL.directives(*[page_data(tail=bytes(4096))] * 1023, x64_vbs())
+))
+refused("03-bytes", 0, 0, "B of 16,777,217 bytes", lambda: of_length(LIMIT + 1))
+refused("02-before-03-bytes", 0, 0, "16,777,217 zero bytes", lambda: bytes(LIMIT + 1))
+
+
+# ---- the programs of the gate
+
+ADMIT_BYTES = 65536
+
+
+def small():
+    return [sample for sample in SAMPLES if len(sample.bytes()) <= ADMIT_BYTES]
+
+
+def named(names):
+    by_name = {sample.name: sample for sample in SAMPLES}
+    return [by_name[name] for name in names]
+
+
+def read_line(sample):
+    """What read_sheets writes: refusals 1 to 7, else readable."""
+    words = sample.line.split()
+    return sample.line if words[0] == "refused" and int(words[1]) <= 7 else "readable"
+
+
+READ = [
+    "b", "01-empty", "01-table", "01-body-2", "02-revision-0", "03-65-initializations", "04-kind-0", "05-kind-18-long", "05-vtl-18",
+    "06-byte", "07-8192", "08-mask-3",
+]
+GATE = {
+    "read_sheets": (lambda: named(READ), read_line),
+    "admit_sheets": (small, lambda sample: sample.line),
+}
+
+
+def gate_files(crate):
+    """The files of the crate's folder by name. The last argument names no file."""
+    samples, line = GATE[crate]
+    samples = samples()
+    names = [sample.name for sample in samples] + ["missing"]
+    lines = [line(sample) for sample in samples] + ["can't be opened"]
+    files = {"data/" + sample.name: sample.bytes() for sample in samples}
+    files["args"] = "".join(name + "\n" for name in names).encode()
+    files["stdout"] = "".join(f"{name}: {text}\n" for name, text in zip(names, lines)).encode()
+    return files
+
+
+CRATES = Path(__file__).resolve().parent.parent / "crates"
+
+
+def check():
+    wrong = 0
+    for sample in SAMPLES:
+        said = model.line(sample.bytes())
+        if said != sample.line:
+            wrong += 1
+            print(f"{sample.name}: {sample.line}; the model says {said}")
+    names = [sample.name for sample in SAMPLES]
+    for name in sorted({name for name in names if names.count(name) > 1}):
+        wrong += 1
+        print(f"{name}: two samples of this name")
+    for crate in GATE:
+        folder = CRATES / crate
+        if folder.exists():
+            files = gate_files(crate)
+            there = {"data/" + path.name for path in (folder / "data").iterdir()} | {"args", "stdout"}
+            for name in sorted(there | set(files)):
+                if name not in files or not (folder / name).exists() or (folder / name).read_bytes() != files[name]:
+                    wrong += 1
+                    print(f"{folder / name}: not what --gate writes")
+    print(f"{len(SAMPLES)} samples, {wrong} wrong")
+    return wrong != 0
+
+
+def write(folder, names):
+    folder.mkdir(parents=True, exist_ok=True)
+    for sample in named(names) if names else small():
+        (folder / sample.name).write_bytes(sample.bytes())
+        print(f"{sample.name}: {sample.line}")
+
+
+def gate(crate, folder):
+    for name, content in gate_files(crate).items():
+        (folder / name).parent.mkdir(parents=True, exist_ok=True)
+        (folder / name).write_bytes(content)
+
+
+def main(words):
+    match words:
+        case ["--check"]:
+            return check()
+        case ["--list"]:
+            for sample in SAMPLES:
+                print(f"{sample.name}: {sample.line} ({sample.what})")
+        case ["--write", folder, *names]:
+            write(Path(folder), names)
+        case ["--gate", crate, *folder] if crate in GATE and len(folder) <= 1:
+            gate(crate, Path(*folder) if folder else CRATES / crate)
+        case _:
+            print(__doc__)
+            return 2
+
+
+if __name__ == "__main__":
+    sys.exit(main(sys.argv[1:]))
