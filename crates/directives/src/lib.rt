@@ -1,19 +1,23 @@
-// Directive headers: refusals 21, 22, 24 and 30 to 33 header by header, the contexts' masks, and 34.
+// Directive headers: refusals 21, 22, 24 and 30 to 33 header by header, and the contexts' masks.
 ghost use mathlib.Core.Path.{_≡_};
-ghost use mathlib.Core.List.{List};
+ghost use mathlib.Core.Bool.{not};
+ghost use lib.Bits.{bitOr};
+ghost use lib.Dec.{ltb};
+ghost use lib.ListN.{getD, set};
 ghost use Prim.Native.Nat.{ℕ, _+_, _<_, _≤_};
 ghost use Rattle.rows.specs.Rows.{Rows, before};
 ghost use Rattle.initialization_header.specs.declared.IgvmInitializationHeader.{IgvmInitializationHeader};
 ghost use Rattle.directive_header.specs.declared.IgvmDirectiveHeader.{IgvmDirectiveHeader};
-ghost use Rattle.directive_header.specs.Fields.{areaOf};
-ghost use Rattle.initializations.specs.Record.{anyRegion, HoldsRegions};
+ghost use Rattle.igvm_defs.specs.Refusals.{fault, noFault, refuse};
+ghost use Rattle.igvm_defs.specs.Vtls.{vtlNumber};
+ghost use Rattle.addresses.specs.Addresses.{onPage};
+ghost use Rattle.directive_header.specs.Fields.{kindNumber, areaOf};
 ghost use Rattle.rules.specs.Directives.{validateDirective, wrongArch, badArea, insideTable};
 ghost use Rattle.directives.specs.Record.{HoldsContexts, lacksContext, howOf, areaNumber, DirectiveStepped};
 use directive_header::IgvmDirectiveHeader;
 use igvm_defs::Arch;
 use igvm_defs::Fault;
 use igvm_defs::Vtl;
-use initializations::RelocRegions;
 use rules::Region;
 
 // 21 alone.
@@ -166,56 +170,27 @@ fn mask_of_vtl(contexts: [u32; 3], vtl: u8) -> u32
     0
 }
 
-fn lacks_context(contexts: [u32; 3], r: Region) -> bool
+pub fn lacks_context(contexts: [u32; 3], r: Region) -> bool
     ensures { λ s. ⌜ s ≡ lacksContext contexts r ⌝ }
 {
     !((r.vp_index == 0) & masks::shares(mask_of_vtl(contexts, r.vtl), r.mask))
 }
 
-// 34: some region has a VP index other than 0, or no context.
-pub fn no_matching_vp_context(regions: RelocRegions, contexts: [u32; 3]) -> bool
-    requires { ⌜ regions .count ≤ 64 ⌝ }
-    ensures { λ r. ⌜ r ≡ anyRegion (lacksContext contexts) regions ⌝ }
-{
-    let n = regions.count;
-    let mut i = 0;
-    let mut found = false;
-    while i < n {
-        found = found | lacks_context(contexts, regions.entry(i));
-        i += 1;
-    }
-    found
-}
-
-// 33: an insert at an address in a page table, under a shared bit.
-pub fn inside_table(regions: RelocRegions, h: IgvmDirectiveHeader) -> bool
-    requires { ⌜ regions .count ≤ 64 ⌝ }
-    ensures { λ r. ⌜ ((xs : Rows IgvmInitializationHeader) → HoldsRegions regions xs → r ≡ insideTable xs h) ⌝ }
-{
-    match h {
-        IgvmDirectiveHeader::ParameterInsert(p) => regions.any_table_holds(
-            p.compatibility_mask,
-            p.gpa,
-        ),
-        _ => false,
-    }
-}
-
 // ---- areas: how a header names an area (0 allocates, 1 uses, 2 inserts, 3 names none), and which
 
-pub struct Naming {
+pub struct AreaName {
     pub how: u8,
     pub area: u32,
 }
 
-pub fn naming(h: IgvmDirectiveHeader) -> Naming
+pub fn naming(h: IgvmDirectiveHeader) -> AreaName
     ensures { λ r. ⌜ (r .how ≡ howOf h) × (r .area ≡ areaNumber (areaOf h)) ⌝ }
 {
     match h {
         IgvmDirectiveHeader::ParameterArea {
             parameter_area_index,
             ..
-        } => Naming {
+        } => AreaName {
             how: 0,
             area: parameter_area_index,
         },
@@ -228,15 +203,15 @@ pub fn naming(h: IgvmDirectiveHeader) -> Naming
         | IgvmDirectiveHeader::MmioRanges(p)
         | IgvmDirectiveHeader::MemoryMap(p)
         | IgvmDirectiveHeader::CommandLine(p)
-        | IgvmDirectiveHeader::DeviceTree(p) => Naming {
+        | IgvmDirectiveHeader::DeviceTree(p) => AreaName {
             how: 1,
             area: p.parameter_area_index,
         },
-        IgvmDirectiveHeader::ParameterInsert(p) => Naming {
+        IgvmDirectiveHeader::ParameterInsert(p) => AreaName {
             how: 2,
             area: p.parameter_area_index,
         },
-        _ => Naming { how: 3, area: 0 },
+        _ => AreaName { how: 3, area: 0 },
     }
 }
 

@@ -9,14 +9,18 @@ ghost use Rattle.sheet.specs.Walk.{cursorAt};
 ghost use Rattle.headers.specs.Headers.{sheetHeaders};
 ghost use Rattle.areas.specs.Areas.{firstBad};
 ghost use Rattle.platforms.specs.Record.{HoldsPlatforms};
-ghost use Rattle.initializations.specs.Record.{HoldsRegions};
-ghost use Rattle.directives.specs.Record.{howOf, areaNumber};
+ghost use Rattle.initialization_header.specs.declared.IgvmInitializationHeader.{IgvmInitializationHeader};
+ghost use Rattle.rows.specs.Rows.{Rows};
+ghost use Rattle.rules.specs.Directives.{insideTable};
+ghost use Rattle.initializations.specs.Record.{anyRegion, HoldsRegions};
+ghost use Rattle.directives.specs.Record.{howOf, areaNumber, lacksContext};
 ghost use Rattle.rules.specs.Verdict.{directivesRefusal};
 ghost use Rattle.answers.specs.Verdict.{verdictOf, noFile};
 ghost use Rattle.directives.specs.Record.{firstBadArea};
 ghost use Rattle.file.specs.Passes.{PlatformsPassed, InitializationsPassed};
 use answers::IgvmFile;
 use answers::Verdict;
+use directive_header::IgvmDirectiveHeader;
 use igvm_defs::Fault;
 use igvm_defs::Refusal;
 use initializations::RelocRegions;
@@ -112,9 +116,9 @@ fn fill_areas(s: &[u8], head: SheetHead, area: &mut [u32], how: &mut [u8])
     );
     let mut i = 0;
     while i < n {
-        let named = directives::naming(headers::directive_at(s, c));
-        area[i] = named.area;
-        how[i] = named.how;
+        let name = directives::naming(headers::directive_at(s, c));
+        area[i] = name.area;
+        how[i] = name.how;
         c = c.next(s);
         i += 1;
     }
@@ -132,6 +136,35 @@ fn first_bad_area(s: &[u8], head: SheetHead) -> usize
     areas::first_bad(&area[..n], &how[..n])
 }
 
+// 34: some region has a VP index other than 0, or no context.
+fn no_matching_vp_context(regions: RelocRegions, contexts: [u32; 3]) -> bool
+    requires { ⌜ regions .count ≤ 64 ⌝ }
+    ensures { λ r. ⌜ r ≡ anyRegion (lacksContext contexts) regions ⌝ }
+{
+    let n = regions.count;
+    let mut i = 0;
+    let mut found = false;
+    while i < n {
+        found = found | directives::lacks_context(contexts, regions.entry(i));
+        i += 1;
+    }
+    found
+}
+
+// 33: an insert at an address in a page table, under a shared bit.
+fn inside_table(regions: RelocRegions, h: IgvmDirectiveHeader) -> bool
+    requires { ⌜ regions .count ≤ 64 ⌝ }
+    ensures { λ r. ⌜ ((xs : Rows IgvmInitializationHeader) → HoldsRegions regions xs → r ≡ insideTable xs h) ⌝ }
+{
+    match h {
+        IgvmDirectiveHeader::ParameterInsert(p) => regions.any_table_holds(
+            p.compatibility_mask,
+            p.gpa,
+        ),
+        _ => false,
+    }
+}
+
 // 21, 22, 24 and 30 to 33 of each directive row, then 34.
 fn validate_directive_headers(s: &[u8], head: SheetHead, regions: RelocRegions) -> Refusal
     requires { ⌜ Readable limits (now s) × (head ≡ headOf (now s)) × HoldsRegions regions (sheetHeaders (now s) .initializations) ⌝ }
@@ -146,7 +179,7 @@ fn validate_directive_headers(s: &[u8], head: SheetHead, regions: RelocRegions) 
     let mut i = 0;
     while i < n {
         let h = headers::directive_at(s, c);
-        let inside = directives::inside_table(regions, h);
+        let inside = inside_table(regions, h);
         let step = directives::step(contexts, arch, i == bad, inside, h);
         let fault = step.fault;
         let next = step.contexts;
@@ -158,7 +191,7 @@ fn validate_directive_headers(s: &[u8], head: SheetHead, regions: RelocRegions) 
         i += 1;
     }
     igvm_defs::refuse(
-        directives::no_matching_vp_context(regions, contexts),
+        no_matching_vp_context(regions, contexts),
         34,
         0,
         Fault::NONE,
