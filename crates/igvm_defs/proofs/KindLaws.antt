@@ -8,18 +8,19 @@ use native.Mathlib.Omega.{arith}
 use lib.Dec.{leb, eqb}
 use lib.ListN.{length, take}
 use borrow.Author.Tests.{leb-true, eqb-true, eq-eqb}
+use Rattle.rows.proofs.Bools.{and-parts}
 use Rattle.igvm_defs.specs.Kinds.{Span, lookup, spans, kindOf, fields, platformList, initializationList, directiveList}
 
 -- ---- the kinds of a list
 
+-- where the span's kinds are of list l, they lie from lo to hi
+abbrev pub spanWithin : ℕ → ℕ → ℕ → Span → Bool
+spanWithin l lo hi x = not (eqb (x .kind .list) l) || (leb lo (x .first) && leb (x .last) hi)
+
 -- every kind of list l lies from lo to hi
 abbrev pub listWithin : ℕ → ℕ → ℕ → List Span → Bool
 listWithin l lo hi [] = true
-listWithin l lo hi (x ∷ xs) = (not (eqb (x .kind .list) l) || (leb lo (x .first) && leb (x .last) hi)) && listWithin l lo hi xs
-
-and-parts : (b c : Bool) → (b && c) ≡ true → (b ≡ true) × (c ≡ true)
-and-parts true c h = (refl, h)
-and-parts false c h = absurd (false≢true h)
+listWithin l lo hi (x ∷ xs) = spanWithin l lo hi x && listWithin l lo hi xs
 
 or-not : (t u : Bool) → (not t || u) ≡ true → t ≡ true → u ≡ true
 or-not true u h e = h
@@ -33,10 +34,10 @@ within l lo hi k (x ∷ xs) t e = go (within l lo hi k xs) (leb (x .first) k && 
         → (c : Bool) → (leb (x .first) k && leb k (x .last)) ≡ c → cond c (x .kind) (lookup xs k) .list ≡ suc l → (lo ≤ k) × (k ≤ hi)
     go rest true c f =
         let (p, q) = and-parts (leb (x .first) k) (leb k (x .last)) c in
-        let (u, v) = and-parts (not (eqb (x .kind .list) (suc l)) || (leb lo (x .first) && leb (x .last) hi)) (listWithin (suc l) lo hi xs) t in
-        let (y, z) = and-parts (leb lo (x .first)) (leb (x .last) hi) (or-not (eqb (x .kind .list) (suc l)) _ u (eq-eqb (x .kind .list) (suc l) f)) in
+        let s = and-parts (spanWithin (suc l) lo hi x) (listWithin (suc l) lo hi xs) t .0 in
+        let (y, z) = and-parts (leb lo (x .first)) (leb (x .last) hi) (or-not (eqb (x .kind .list) (suc l)) _ s (eq-eqb (x .kind .list) (suc l) f)) in
         (omega (arith, leb-true (x .first) k p, leb-true lo (x .first) y), omega (arith, leb-true k (x .last) q, leb-true (x .last) hi z))
-    go rest false c f = rest (and-parts (not (eqb (x .kind .list) (suc l)) || (leb lo (x .first) && leb (x .last) hi)) (listWithin (suc l) lo hi xs) t .1) f
+    go rest false c f = rest (and-parts (spanWithin (suc l) lo hi x) (listWithin (suc l) lo hi xs) t .1) f
 
 pub platform-kind : (k : ℕ) → kindOf k .list ≡ platformList → k ≡ 1
 unfolding kindOf spans

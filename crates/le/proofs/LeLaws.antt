@@ -1,6 +1,6 @@
 -- Laws of little-endian numbers: reads within the bytes that two lists share, and the bound of a number.
 -- Assumes nothing.
-use mathlib.Core.Path.{_≡_, refl, _∙_, ap, ap₂, sym}
+use mathlib.Core.Path.{_≡_, _∙_, ap, sym}
 use mathlib.Core.Bool.{true}
 use mathlib.Core.List.{List}
 use Prim.Native.Nat.{ℕ, zero, suc, _+_, _*_, _^_, _<_, _≤_}
@@ -11,12 +11,8 @@ use lib.ListN.{take}
 use lib.Seq.{getD-take}
 use borrow.Author.Tests.{leb-true, ltb-true}
 use Rattle.rows.specs.Below.{sumBelow}
+use Rattle.rows.proofs.BelowLaws.{sum-cong}
 use Rattle.le.specs.Le.{byteAt, leAt}
-
-sum-cong : (n : ℕ) (f g : ℕ → ℕ) → ((k : ℕ) → k < n → f k ≡ g k) → sumBelow n f ≡ sumBelow n g
-unfolding sumBelow
-sum-cong zero f g h = refl
-sum-cong (suc n) f g h = ap₂ (λ x y. x + y) (sum-cong n f g (λ k l. h k (omega arith))) (h n (omega arith))
 
 -- ---- two lists that agree on their first m bytes
 module _ (m : ℕ) (x y : List ℕ) (h : take m x ≡ take m y) where

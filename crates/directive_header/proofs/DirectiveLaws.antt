@@ -1,0 +1,125 @@
+-- Laws of directive headers.
+-- Assumes nothing.
+use mathlib.Core.Path.{_≡_, refl}
+use mathlib.Core.Bool.{false, not, _||_, true≢false}
+use mathlib.Core.List.{List}
+use mathlib.Core.Option.{none}
+use Prim.Native.Nat.{ℕ, _+_}
+use lib.Dec.{T, eqb}
+use mir.Val.{hasKey}
+use types.Run.{OneOf}
+use denote.Enum.Declared.{tagOf}
+use Rattle.le.proofs.LeLaws.{le-read, byte-read}
+use Rattle.igvm_defs.specs.Kinds.{directiveList, kindOf, spans, fields}
+use Rattle.igvm_defs.proofs.KindLaws.{Local, LocalAt, directive-kind}
+use Rattle.igvm_defs.proofs.Runs.{each, _⨾_}
+use Rattle.igvm_defs.proofs.Tags.{not-number}
+use Rattle.directive_header.specs.declared.IgvmDirectiveHeader.{IgvmDirectiveHeader}
+use Rattle.directive_header.specs.declared.IgvmDirectiveHeader.the-variants.{PageData, ParameterArea, VpCount, EnvironmentInfo, Srat, Madt, Slit, Pptt, MmioRanges, MemoryMap, CommandLine, DeviceTree, RequiredMemory, SnpVpContext, X64NativeVpContext, X64VbsVpContext, AArch64VbsVpContext, AArch64CcaVpContext, ParameterInsert, ErrorRange, SnpIdBlock, VbsMeasurement}
+use Rattle.directive_header.specs.Directives.{directiveOf}
+use Rattle.directive_header.specs.Fields.{kindNumber, areaOf, isParameter, areaNamed}
+use Rattle.directive_header.proofs.IgvmDirectiveHeader.{the-type}
+
+-- a header says no more than the kind, the body's length and its fields
+pub directive-local : Local directiveList directiveOf
+unfolding directiveOf fields kindOf spans
+directive-local kind x y l n h =
+    let (p, q) = directive-kind kind l in
+    each (LocalAt directiveOf) 32 22 (
+    (λ x y n h. simp (le-read (fields 32) x y h, n)) ⨾
+    (λ x y n h. simp (le-read (fields 33) x y h, n)) ⨾
+    (λ x y n h. simp (le-read (fields 34) x y h)) ⨾
+    (λ x y n h. simp (le-read (fields 35) x y h)) ⨾
+    (λ x y n h. simp (le-read (fields 36) x y h)) ⨾
+    (λ x y n h. simp (le-read (fields 37) x y h)) ⨾
+    (λ x y n h. simp (le-read (fields 38) x y h)) ⨾
+    (λ x y n h. simp (le-read (fields 39) x y h)) ⨾
+    (λ x y n h. simp (le-read (fields 40) x y h)) ⨾
+    (λ x y n h. simp (le-read (fields 41) x y h)) ⨾
+    (λ x y n h. simp (le-read (fields 42) x y h)) ⨾
+    (λ x y n h. simp (le-read (fields 43) x y h)) ⨾
+    (λ x y n h. simp (le-read (fields 44) x y h, byte-read (fields 44) x y h)) ⨾
+    (λ x y n h. simp (le-read (fields 45) x y h, n)) ⨾
+    (λ x y n h. simp (le-read (fields 46) x y h, n)) ⨾
+    (λ x y n h. simp (le-read (fields 47) x y h, byte-read (fields 47) x y h, n)) ⨾
+    (λ x y n h. simp (le-read (fields 48) x y h, byte-read (fields 48) x y h, n)) ⨾
+    (λ x y n h. simp (le-read (fields 49) x y h, n)) ⨾
+    (λ x y n h. simp (le-read (fields 50) x y h)) ⨾
+    (λ x y n h. simp (le-read (fields 51) x y h)) ⨾
+    (λ x y n h. simp (le-read (fields 52) x y h, n)) ⨾
+    (λ x y n h. simp (le-read (fields 53) x y h, n)) ⨾
+    tt) kind p q x y n h
+
+-- decoding keeps the kind
+pub kind-directive : (kind : ℕ) → kindOf kind .list ≡ directiveList → (b : List ℕ) → kindNumber (directiveOf kind b) ≡ kind
+unfolding directiveOf
+kind-directive kind l =
+    let (p, q) = directive-kind kind l in
+    each (λ k. (b : List ℕ) → kindNumber (directiveOf k b) ≡ k) 32 22 (
+    (λ b. refl) ⨾ (λ b. refl) ⨾ (λ b. refl) ⨾ (λ b. refl) ⨾ (λ b. refl) ⨾ (λ b. refl) ⨾ (λ b. refl) ⨾ (λ b. refl) ⨾ (λ b. refl) ⨾ (λ b. refl) ⨾ (λ b. refl) ⨾
+    (λ b. refl) ⨾ (λ b. refl) ⨾ (λ b. refl) ⨾ (λ b. refl) ⨾ (λ b. refl) ⨾ (λ b. refl) ⨾ (λ b. refl) ⨾ (λ b. refl) ⨾ (λ b. refl) ⨾ (λ b. refl) ⨾ (λ b. refl) ⨾ tt) kind p q
+
+-- the area that a header names is the one that its row names
+pub area-directive : (kind : ℕ) → kindOf kind .list ≡ directiveList → (b : List ℕ) → areaOf (directiveOf kind b) ≡ areaNamed kind b
+unfolding directiveOf areaNamed
+area-directive kind l =
+    let (p, q) = directive-kind kind l in
+    each (λ k. (b : List ℕ) → areaOf (directiveOf k b) ≡ areaNamed k b) 32 22 (
+    (λ b. refl) ⨾ (λ b. refl) ⨾ (λ b. refl) ⨾ (λ b. refl) ⨾ (λ b. refl) ⨾ (λ b. refl) ⨾ (λ b. refl) ⨾ (λ b. refl) ⨾ (λ b. refl) ⨾ (λ b. refl) ⨾ (λ b. refl) ⨾
+    (λ b. refl) ⨾ (λ b. refl) ⨾ (λ b. refl) ⨾ (λ b. refl) ⨾ (λ b. refl) ⨾ (λ b. refl) ⨾ (λ b. refl) ⨾ (λ b. refl) ⨾ (λ b. refl) ⨾ (λ b. refl) ⨾ (λ b. refl) ⨾ tt) kind p q
+
+-- a header of any other kind than 33, 34 to 43 and 50 names no area
+pub area-none : (h : IgvmDirectiveHeader) → (eqb (kindNumber h) 33 || isParameter (kindNumber h) || eqb (kindNumber h) 50) ≡ false → areaOf h ≡ none
+area-none (PageData a b c d e) t = refl
+area-none (ParameterArea a b c) t = absurd (true≢false t)
+area-none (VpCount a) t = absurd (true≢false t)
+area-none (EnvironmentInfo a) t = absurd (true≢false t)
+area-none (Srat a) t = absurd (true≢false t)
+area-none (Madt a) t = absurd (true≢false t)
+area-none (Slit a) t = absurd (true≢false t)
+area-none (Pptt a) t = absurd (true≢false t)
+area-none (MmioRanges a) t = absurd (true≢false t)
+area-none (MemoryMap a) t = absurd (true≢false t)
+area-none (CommandLine a) t = absurd (true≢false t)
+area-none (DeviceTree a) t = absurd (true≢false t)
+area-none (RequiredMemory a b c d) t = refl
+area-none (SnpVpContext a b c d) t = refl
+area-none (X64NativeVpContext a b c) t = refl
+area-none (X64VbsVpContext a b c) t = refl
+area-none (AArch64VbsVpContext a b c) t = refl
+area-none (AArch64CcaVpContext a b c) t = refl
+area-none (ParameterInsert a) t = absurd (true≢false t)
+area-none (ErrorRange a b c) t = refl
+area-none (SnpIdBlock a b) t = refl
+area-none (VbsMeasurement a b) t = refl
+
+-- ---- what an arm of a `match` knows that binds nothing
+
+-- kinds follow the variants' order, from 32
+pub kind-tag : (h : IgvmDirectiveHeader) → kindNumber h ≡ 32 + tagOf the-type h
+kind-tag (PageData a b c d e) = refl
+kind-tag (ParameterArea a b c) = refl
+kind-tag (VpCount a) = refl
+kind-tag (EnvironmentInfo a) = refl
+kind-tag (Srat a) = refl
+kind-tag (Madt a) = refl
+kind-tag (Slit a) = refl
+kind-tag (Pptt a) = refl
+kind-tag (MmioRanges a) = refl
+kind-tag (MemoryMap a) = refl
+kind-tag (CommandLine a) = refl
+kind-tag (DeviceTree a) = refl
+kind-tag (RequiredMemory a b c d) = refl
+kind-tag (SnpVpContext a b c d) = refl
+kind-tag (X64NativeVpContext a b c) = refl
+kind-tag (X64VbsVpContext a b c) = refl
+kind-tag (AArch64VbsVpContext a b c) = refl
+kind-tag (AArch64CcaVpContext a b c) = refl
+kind-tag (ParameterInsert a) = refl
+kind-tag (ErrorRange a b c) = refl
+kind-tag (SnpIdBlock a b) = refl
+kind-tag (VbsMeasurement a b) = refl
+
+-- the test of a kind whose variant is not among those of an arm; k is the variant's place
+pub not-kind : (ks : List ℕ) (h : IgvmDirectiveHeader) (k : ℕ) → T (not (hasKey ks k)) → OneOf ks (tagOf the-type h) → eqb (kindNumber h) (32 + k) ≡ false
+not-kind ks h k t o = rw (kind-tag h) (not-number 32 ks (tagOf the-type h) k t o)

@@ -1,0 +1,2 @@
+pub mod Directives
+pub mod Fields

@@ -1,0 +1,2 @@
+pub mod Initializations
+pub mod Fields
