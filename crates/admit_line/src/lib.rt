@@ -72,7 +72,7 @@ impl Line {
 }
 
 fn accepted_line(v: Verdict) -> Line
-    ensures { λ r. ⌜ textOf r ≡ acceptedLine v ⌝ }
+    ensures { λ r. ⌜ (textOf r ≡ acceptedLine v) × (r .len ≤ 96) ⌝ }
 {
     Line::new()
         .text(b"accepted ")
@@ -85,7 +85,7 @@ fn accepted_line(v: Verdict) -> Line
 }
 
 fn refused_line(v: Verdict) -> Line
-    ensures { λ r. ⌜ textOf r ≡ refusedLine v ⌝ }
+    ensures { λ r. ⌜ (textOf r ≡ refusedLine v) × (r .len ≤ 96) ⌝ }
 {
     let refusal = v.refusal;
     Line::new()
@@ -99,8 +99,8 @@ fn refused_line(v: Verdict) -> Line
 }
 
 // The line of an input; above 65,536 bytes it is 3, before all else.
-pub fn line(s: &[u8]) -> Line
-    ensures { λ r. ⌜ textOf r ≡ lineOf (admitOf limits (now (s .entry))) ⌝ }
+pub fn admit_line(s: &[u8]) -> Line
+    ensures { λ r. ⌜ (textOf r ≡ lineOf (admitOf limits (now (s .entry)))) × (r .len ≤ 96) ⌝ }
 {
     if 65536 < s.len() {
         return refused_line(Verdict {
