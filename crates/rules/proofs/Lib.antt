@@ -1,0 +1,3 @@
+pub mod RegionLaws
+pub mod FaultLaws
+pub mod AreaLaws
