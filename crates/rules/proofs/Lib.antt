@@ -1,3 +1,4 @@
 pub mod RegionLaws
 pub mod FaultLaws
 pub mod AreaLaws
+pub mod Acceptance
