@@ -3,7 +3,7 @@
 use mathlib.Core.Path.{_≡_, refl, sym, _∙_}
 use mathlib.Core.Bool.{Bool, true, false, not, _&&_, false≢true}
 use mathlib.Core.Logic.{_↔_}
-use mathlib.Core.Option.{Option, none, some}
+use mathlib.Core.Option.{none, some}
 use Prim.Native.Nat.{ℕ, _+_, _^_, _<_}
 use native.Mathlib.Omega.{arith}
 use lib.Dec.{eqb}
@@ -13,8 +13,7 @@ use Rattle.rows.proofs.Bools.{and-parts}
 use Rattle.rows.proofs.BelowLaws.{none-any}
 use Rattle.rows.proofs.PairedLaws.{earlier-apart, apart-earlier}
 use Rattle.igvm_defs.specs.declared.Arch.{Arch}
-use Rattle.igvm_defs.specs.declared.Fault.{Fault}
-use Rattle.igvm_defs.specs.Refusals.{fault, noFault, refuse, orFault, isFault, isRefusal, inRow, firstFault}
+use Rattle.igvm_defs.specs.Refusals.{noFault, isFault, isRefusal, inRow, firstFault}
 use Rattle.igvm_defs.specs.Platforms.{platformTypeOf}
 use Rattle.igvm_defs.proofs.RefusalLaws.{no-fault, row-refusal}
 use Rattle.platform_header.specs.declared.IgvmPlatformHeader.{IgvmPlatformHeader}
@@ -23,7 +22,7 @@ use Rattle.initialization_header.specs.declared.IgvmInitializationHeader.the-va
 use Rattle.directive_header.specs.declared.«IGVM_VHS_PARAMETER_INSERT».{«IGVM_VHS_PARAMETER_INSERT»}
 use Rattle.directive_header.specs.declared.IgvmDirectiveHeader.{IgvmDirectiveHeader}
 use Rattle.directive_header.specs.declared.IgvmDirectiveHeader.the-variants.{PageData, ParameterArea, VpCount, EnvironmentInfo, Srat, Madt, Slit, Pptt, MmioRanges, MemoryMap, CommandLine, DeviceTree, RequiredMemory, SnpVpContext, X64NativeVpContext, X64VbsVpContext, AArch64VbsVpContext, AArch64CcaVpContext, ParameterInsert, ErrorRange, SnpIdBlock, VbsMeasurement}
-use Rattle.directive_header.specs.Fields.{kindNumber, areaOf}
+use Rattle.directive_header.specs.Fields.{kindNumber}
 use Rattle.masks.specs.Masks.{hasBit}
 use Rattle.masks.proofs.MaskLaws.{first-mask-none}
 use Rattle.addresses.specs.Addresses.{endsBeyond}
@@ -31,9 +30,9 @@ use Rattle.rules.specs.declared.Region.{Region}
 use Rattle.rules.specs.Regions.{regionOf, regionPasses, tablesShare, overlap, tableHolds}
 use Rattle.rules.specs.Platforms.{validatePlatform, standsWith, sameType, platformFault, lastIsCca}
 use Rattle.rules.specs.Initializations as Initializations
-use Rattle.rules.specs.Initializations.{validateInitialization, bitWithoutCca, withoutCca, refuseBit, initializationFault}
+use Rattle.rules.specs.Initializations.{validateInitialization, bitWithoutCca, withoutCca, initializationFault}
 use Rattle.rules.specs.Directives as Directives
-use Rattle.rules.specs.Directives.{validateDirective, allocates, isAllocated, badArea, insideTable, directiveFault, isContext, noContext}
+use Rattle.rules.specs.Directives.{validateDirective, allocates, badArea, insideTable, directiveFault, isContext, noContext}
 use Rattle.rules.specs.Verdict.{Headers, platformFaults, initializationFaults, directiveFaults, noPlatform, noMatchingVpContext, platformsRefusal, initializationsRefusal, directivesRefusal, headersRefusal}
 use Rattle.rules.specs.Accepted.{NotRefused, ownPlatformFault, ownInitializationFault, ownDirectiveFault, regionsClash, Accepted}
 use Rattle.rules.proofs.RegionLaws.{overlap-sym, tables-share-sym, region-fails, regions-clash-sym, clash-any}

@@ -4,7 +4,7 @@ use mathlib.Core.Path.{_≡_, sym}
 use mathlib.Core.Bool.{false}
 use mathlib.Core.Logic.{_↔_}
 use Rattle.rows.specs.Paired.{Free}
-use Rattle.rows.proofs.PairedLaws.{forth, back, flip}
+use Rattle.rows.proofs.PairedLaws.{forth, flip}
 use Rattle.igvm_defs.specs.Refusals.{isRefusal}
 use Rattle.initialization_header.specs.declared.IgvmInitializationHeader.{IgvmInitializationHeader}
 use Rattle.rules.specs.Verdict.{Headers, headersRefusal}

@@ -1,12 +1,12 @@
 -- The mask's regions and its page-table region, by rows.
 -- Assumes nothing.
-use mathlib.Core.Path.{_≡_, refl, sym, ap, _∙_}
-use mathlib.Core.Bool.{Bool, true, false, _||_, false≢true, or-false}
+use mathlib.Core.Path.{_≡_, refl, sym, ap}
+use mathlib.Core.Bool.{true, _||_, false≢true, or-false}
 use mathlib.Core.Logic.{_≢_}
-use mathlib.Core.Option.{Option, none, some}
+use mathlib.Core.Option.{Option, some}
 use Prim.Native.Nat.{ℕ, _<_}
 use native.Mathlib.Decide.{ℕ-discrete}
-use Rattle.rows.specs.Rows.{Rows, before, countOf, Apart, Once}
+use Rattle.rows.specs.Rows.{Rows, Apart, Once}
 use Rattle.rows.specs.Paired.{Paired, Into}
 use Rattle.rows.proofs.Bools.{not-both}
 use Rattle.rows.proofs.BelowLaws.{count-lt, nth-number}
