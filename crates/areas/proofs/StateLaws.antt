@@ -1,6 +1,6 @@
 -- The latest earlier row that names an area decides, as long as no earlier row is bad.
 use mathlib.Core.Path.{_≡_, refl, sym, ap, _∙_}
-use mathlib.Core.Bool.{Bool, true, false, not, _&&_, _||_, false≢true, or-false}
+use mathlib.Core.Bool.{Bool, true, false, cond, not, _&&_, _||_, or-false, and-true}
 use mathlib.Core.Logic.{_≢_, _⊎_, inl, inr}
 use Prim.Native.Nat.{ℕ, zero, suc, _<_}
 use native.Mathlib.Nat.{not-suc-le-zero}
@@ -95,16 +95,16 @@ agrees a w (suc n) good x = go (agrees a w n (λ j l. good j (omega arith)) x) (
         let r : eqb x (a n) ≡ true = eq-eqb x (a n) (sym p) in
         let (s0, s2) = after-tests (eqb (w n) 2) in
         let (g0, g2) = good-row (named a w 0 n x) (named a w 2 n x) (eqb (w n) 0) (eqb (w n) 2)
-        (λ h. ne-eqb (w n) 2 (λ g. let z = eqb-true _ _ h in omega arith)) (rw (p, ne-eqb (w n) 3 q) at f)
+        (λ h. ne-eqb (w n) 2 (λ g. let z : w n ≡ 0 = eqb-true _ _ h in omega arith)) (rw (p, ne-eqb (w n) 3 q) at f)
         (no-insert (state a w n x) _ _ (s .allocated) (s .inserted)) in
-        record { allocated = rw (e, s0, r) g0; inserted = rw (e, s2, r) g2 }
+        record { allocated = rw (e, s0, r, and-true) g0; inserted = rw (e, s2, r, and-true) g2 }
 
--- the code's test is the definition's
-pub bad-by-state : (a w : ℕ → ℕ) (i : ℕ) → anyBelow i (badRow a w) ≡ false → badRow a w i ≡ badIn (w i) (state a w i (a i))
+-- the test by the state is the definition's
+pub bad-by-state : (a w : ℕ → ℕ) (i s : ℕ) → anyBelow i (badRow a w) ≡ false → w i ≢ 3 → s ≡ state a w i (a i) → badIn (w i) s ≡ badRow a w i
 unfolding badRow isAllocated
-bad-by-state a w i h =
-    let s = agrees a w i (none-any i (badRow a w) .0 h) (a i) in
-    rw (s .allocated, s .inserted, tests)
+bad-by-state a w i s h n e =
+    let g = agrees a w i (none-any i (badRow a w) .0 h) (a i) in
+    rw (ne-eqb (w i) 3 n, g .allocated, g .inserted, tests, e)
   where
     tests : (b c : Bool) → not (not b && not c) ≡ (b || c)
     tests true c = refl
@@ -112,6 +112,6 @@ bad-by-state a w i h =
     tests false false = refl
 
 -- a row that names no area is not bad
-pub no-area : (a w : ℕ → ℕ) (i : ℕ) → w i ≡ 3 → badRow a w i ≡ false
+pub good-no-area : (a w : ℕ → ℕ) (i : ℕ) → w i ≡ 3 → false ≡ badRow a w i
 unfolding badRow
-no-area a w i h = rw (eq-eqb (w i) 3 h)
+good-no-area a w i h = rw (eq-eqb (w i) 3 h)

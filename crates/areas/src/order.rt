@@ -5,7 +5,7 @@ ghost use Prim.Native.Nat.{_+_, _*_, _<_, _≤_};
 ghost use lib.ListN.{length};
 ghost use Rattle.rows.specs.Below.{anyBelow};
 ghost use Rattle.areas.specs.Areas.{limit, item, badRow, firstBad};
-ghost use Rattle.areas.specs.Order.{key, Ascending, PlacedAt, Placed, stateAt};
+ghost use Rattle.areas.specs.Order.{key, Ascending, Ordered, PlacedAt, Placed, stateAt};
 use crate::NO_AREA;
 use crate::ROWS;
 use crate::plain;
@@ -62,8 +62,8 @@ fn placed(what: &[u8], order: &[u16; ROWS], pos: &[u16; ROWS], m: usize, i: usiz
 
 // The state of the area of the row at place k, by the entry before it.
 fn state_at(area: &[u32], what: &[u8], order: &[u16; ROWS], m: usize, k: usize) -> u8
-    requires { ⌜ (length (now area) ≡ length (now what)) × (length (now area) ≤ limit) × (m ≤ limit) × (k < m) ⌝ }
-    requires { ⌜ Ascending (item (now area)) (item (now what)) (item (now order)) (length (now area)) m ⌝ }
+    requires { ⌜ Ordered (now area) (now what) (now order) m ⌝ }
+    requires { ⌜ k < m ⌝ }
     ensures { λ r. ⌜ r ≡ stateAt (item (now (area .entry))) (item (now (what .entry))) (item (now (order .entry))) k ⌝ }
 {
     if k == 0 {
@@ -79,10 +79,8 @@ fn state_at(area: &[u32], what: &[u8], order: &[u16; ROWS], m: usize, k: usize) 
 
 // Whether row i is bad, where no earlier row is, and rows up to i stand at their places.
 fn bad_row(area: &[u32], what: &[u8], order: &[u16; ROWS], pos: &[u16; ROWS], m: usize, i: usize) -> bool
-    requires { ⌜ (length (now area) ≡ length (now what)) × (length (now area) ≤ limit) × (m ≤ limit) × (i < length (now area)) ⌝ }
-    requires { ⌜ Ascending (item (now area)) (item (now what)) (item (now order)) (length (now area)) m ⌝ }
-    requires { ⌜ Placed (item (now what)) (item (now order)) (item (now pos)) m (i + 1) ⌝ }
-    requires { ⌜ anyBelow i (badRow (item (now area)) (item (now what))) ≡ false ⌝ }
+    requires { ⌜ Ordered (now area) (now what) (now order) m ⌝ }
+    requires { ⌜ (i < length (now area)) × Placed (item (now what)) (item (now order)) (item (now pos)) m (i + 1) × (anyBelow i (badRow (item (now area)) (item (now what))) ≡ false) ⌝ }
     ensures { λ r. ⌜ r ≡ badRow (item (now (area .entry))) (item (now (what .entry))) i ⌝ }
 {
     if what[i] == NO_AREA {
@@ -94,8 +92,7 @@ fn bad_row(area: &[u32], what: &[u8], order: &[u16; ROWS], pos: &[u16; ROWS], m:
 
 // The first bad row. Where a row doesn't stand at its place the plain form answers.
 pub fn first_bad(area: &[u32], what: &[u8], order: &[u16; ROWS], pos: &[u16; ROWS], m: usize) -> usize
-    requires { ⌜ (length (now area) ≡ length (now what)) × (length (now area) ≤ limit) × (m ≤ limit) ⌝ }
-    requires { ⌜ Ascending (item (now area)) (item (now what)) (item (now order)) (length (now area)) m ⌝ }
+    requires { ⌜ Ordered (now area) (now what) (now order) m ⌝ }
     ensures { λ r. ⌜ r ≡ firstBad (now (area .entry)) (now (what .entry)) ⌝ }
 {
     let mut i = 0;

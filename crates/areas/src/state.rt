@@ -3,7 +3,6 @@ ghost use mathlib.Core.Path.{_≡_};
 ghost use Rattle.areas.specs.Order.{after, badIn};
 use crate::ALLOCATE;
 use crate::INSERT;
-use crate::NO_AREA;
 
 // The state in which a row that names an area leaves it.
 pub fn after(k: u8) -> u8
@@ -19,9 +18,6 @@ pub fn after(k: u8) -> u8
 pub fn bad_in(k: u8, s: u8) -> bool
     ensures { λ r. ⌜ r ≡ badIn k s ⌝ }
 {
-    if k == NO_AREA {
-        return false;
-    }
     if k == ALLOCATE {
         return s != 0;
     }
