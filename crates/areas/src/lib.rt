@@ -3,10 +3,11 @@ ghost use mathlib.Core.Path.{_≡_};
 ghost use Prim.Native.Nat.{_<_, _≤_};
 ghost use lib.ListN.{length};
 ghost use Rattle.areas.specs.Areas.{limit, firstBad};
-mod state;
+
+mod order;
 mod plain;
 mod radix;
-mod order;
+mod state;
 
 // The most rows that are taken: `limit` of specs/Areas.antt. Row numbers are kept as u16.
 const ROWS: usize = 1024;
@@ -44,7 +45,7 @@ fn first_bad_sorted(area: &[u32], what: &[u8]) -> usize
     let m = radix::rows_naming(what, &mut order);
     let mut pos: [u16; ROWS] = [0; ROWS];
     radix::sort(area, m, &mut order, &mut pos);
-    if !order::ascending(area, what, &order, m) {
+    if !order::ordered(area, what, &order, m) {
         return plain::first_bad(area, what);
     }
     radix::places(&order, m, &mut pos);

@@ -5,7 +5,7 @@ ghost use Prim.Native.Nat.{_+_, _*_, _<_, _≤_};
 ghost use lib.ListN.{length};
 ghost use Rattle.rows.specs.Below.{anyBelow};
 ghost use Rattle.areas.specs.Areas.{limit, item, badRow, firstBad};
-ghost use Rattle.areas.specs.Order.{key, Ascending, Ordered, PlacedAt, Placed, stateAt};
+ghost use Rattle.areas.specs.Order.{key, Ordered, PlacedAt, Placed, stateAt};
 use crate::NO_AREA;
 use crate::ROWS;
 use crate::plain;
@@ -21,9 +21,9 @@ fn key_of(area: &[u32], i: usize) -> usize
 }
 
 // Whether the first m entries are rows that name an area, with ascending keys.
-pub fn ascending(area: &[u32], what: &[u8], order: &[u16; ROWS], m: usize) -> bool
+pub fn ordered(area: &[u32], what: &[u8], order: &[u16; ROWS], m: usize) -> bool
     requires { ⌜ (length (now area) ≡ length (now what)) × (length (now area) ≤ limit) × (m ≤ limit) ⌝ }
-    ensures { λ r. ⌜ (r ≡ true → Ascending (item (now (area .entry))) (item (now (what .entry))) (item (now (order .entry))) (length (now (area .entry))) m) ⌝ }
+    ensures { λ r. ⌜ (r ≡ true → Ordered (now (area .entry)) (now (what .entry)) (now (order .entry)) m) ⌝ }
 {
     let mut k: usize = 0;
     let mut least: usize = 0;
@@ -78,7 +78,14 @@ fn state_at(area: &[u32], what: &[u8], order: &[u16; ROWS], m: usize, k: usize) 
 }
 
 // Whether row i is bad, where no earlier row is, and rows up to i stand at their places.
-fn bad_row(area: &[u32], what: &[u8], order: &[u16; ROWS], pos: &[u16; ROWS], m: usize, i: usize) -> bool
+fn bad_row(
+    area: &[u32],
+    what: &[u8],
+    order: &[u16; ROWS],
+    pos: &[u16; ROWS],
+    m: usize,
+    i: usize,
+) -> bool
     requires { ⌜ Ordered (now area) (now what) (now order) m ⌝ }
     requires { ⌜ (i < length (now area)) × Placed (item (now what)) (item (now order)) (item (now pos)) m (i + 1) × (anyBelow i (badRow (item (now area)) (item (now what))) ≡ false) ⌝ }
     ensures { λ r. ⌜ r ≡ badRow (item (now (area .entry))) (item (now (what .entry))) i ⌝ }
@@ -91,7 +98,13 @@ fn bad_row(area: &[u32], what: &[u8], order: &[u16; ROWS], pos: &[u16; ROWS], m:
 }
 
 // The first bad row. Where a row doesn't stand at its place the plain form answers.
-pub fn first_bad(area: &[u32], what: &[u8], order: &[u16; ROWS], pos: &[u16; ROWS], m: usize) -> usize
+pub fn first_bad(
+    area: &[u32],
+    what: &[u8],
+    order: &[u16; ROWS],
+    pos: &[u16; ROWS],
+    m: usize,
+) -> usize
     requires { ⌜ Ordered (now area) (now what) (now order) m ⌝ }
     ensures { λ r. ⌜ r ≡ firstBad (now (area .entry)) (now (what .entry)) ⌝ }
 {

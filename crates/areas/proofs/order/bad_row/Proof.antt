@@ -12,7 +12,7 @@ shared-slice-read-if1 : tie.Need-shared-slice-read-if1
 shared-slice-read-if1 c = search needs
 
 returns : tie.Need-returns
-returns c = 
+returns c =
     let a = c .before .before .before .before .args in
     good-no-area (item (a .area .now)) (item (a .what .now)) (a .i) (c .if1 .taken)
 
@@ -26,7 +26,7 @@ wide-requires : tie.Need-wide-requires
 wide-requires c κs = search needs
 
 state-at-requires : tie.Need-state-at-requires
-state-at-requires c κs = 
+state-at-requires c κs =
     let e = c .before .before in
     let s = e .before .before .before .before in
     let p = s .pre .1 .1 (s .args .i) (omega arith) (e .if1 .left) in
@@ -39,7 +39,7 @@ bad-in-requires : tie.Need-bad-in-requires
 bad-in-requires c κs = search needs
 
 returns-2 : tie.Need-returns-2
-returns-2 c = 
+returns-2 c =
     let k = c .before .before .before in
     let e = k .before .before in
     let s = e .before .before .before .before in

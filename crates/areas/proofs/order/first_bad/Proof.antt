@@ -1,56 +1,76 @@
+use mathlib.Core.Path.{_≡_, sym, _∙_}
+use mathlib.Core.Bool.{false}
+use Prim.Native.Nat.{_≤_, _-_}
+use native.Mathlib.Omega.{arith}
+use lib.ListN.{length}
+use borrow.Author.Count.{below-more}
+use borrow.Author.Tests.{not-false}
+use Rattle.rows.specs.Below.{anyBelow}
+use Rattle.rows.proofs.Bools.{or-both-false}
+use Rattle.rows.proofs.BelowLaws.{any-more}
+use Rattle.areas.specs.Areas.{item, badRow, firstBad}
+use Rattle.areas.specs.Order.{PlacedAt, Placed}
+use Rattle.areas.proofs.AreaLaws.{first-or-at, first-or-none}
+use borrow.Author.Needs.{needs}
 use Rattle.areas.proofs.order.first_bad.Statement.{statement}
 use Rattle.areas.proofs.order.first_bad.Tie as tie
-use Rattle.areas.proofs.order.first_bad.Reads as reads
-use Rattle.areas.proofs.order.first_bad.Lts as lts
-use Rattle.areas.proofs.order.bad_row.Reads as bad-row-reads
-use Rattle.areas.proofs.order.placed.Reads as placed-reads
-use Rattle.areas.proofs.plain.first_bad.Reads as first-bad-reads
 
 abbrev Inv-loop : tie.InvT-loop
-Inv-loop area what order pos m i₀ i = ?
+Inv-loop area what order pos m i₀ i = (i ≤ length area) × Placed (item what) (item order) (item pos) m i × (anyBelow i (badRow (item area) (item what)) ≡ false)
 
 abbrev μ-loop : tie.MeasureT-loop
-μ-loop area what order pos m i₀ i = ?
+μ-loop area what order pos m i₀ i = length area - i
 
--- src/order.rt:99:5
 loop-holds : tie.Need-loop-holds Inv-loop μ-loop
-loop-holds c = ?
+unfolding anyBelow
+loop-holds c = search needs
 
--- src/order.rt:100:13
 placed-requires : tie.Need-placed-requires Inv-loop μ-loop
-placed-requires c κs = ?
+placed-requires c κs = search needs
 
--- src/order.rt:101:13
 first-bad-requires : tie.Need-first-bad-requires Inv-loop μ-loop
-first-bad-requires c κs = ?
+first-bad-requires c κs = search needs
 
--- src/order.rt:101:13
 returns : tie.Need-returns Inv-loop μ-loop
-returns c = ?
+returns c = search needs
 
--- src/order.rt:103:12
 bad-row-requires : tie.Need-bad-row-requires Inv-loop μ-loop
-bad-row-requires c κs = ?
+bad-row-requires c κs =
+    let b = c .before .before .before in
+    let s = b .before .before .before in
+    let a = s .args in
+    let p = c .before .placed .ensures (not-false _ (c .if1 .left)) in
+    (s .pre, (search needs, below-more (PlacedAt (item (a .what .now)) (item (a .order .now)) (item (a .pos .now)) (a .m)) (b .loop .i) (b .loop .inv .1) p, b .loop .inv .2))
 
--- src/order.rt:104:13
 returns-2 : tie.Need-returns-2 Inv-loop μ-loop
-returns-2 c = ?
+unfolding firstBad
+returns-2 c =
+    let b = c .before .before .before .before .before in
+    sym (first-or-at _ _ (b .loop .i) (search needs) (b .loop .inv .2) (sym (c .before .bad-row .ensures) ∙ c .if2 .taken))
 
--- src/order.rt:106:9
 add-i : tie.Need-add-i Inv-loop μ-loop
-add-i c = ?
+add-i c = search needs
 
--- src/order.rt:99:5
 loop-less : tie.Need-loop-less Inv-loop μ-loop
-loop-less c = ?
+loop-less c = search needs
 
--- src/order.rt:99:5
 loop-again : tie.Need-loop-again Inv-loop μ-loop
-loop-again c = ?
+loop-again c =
+    let e = c .before .before in
+    let b = e .before .before .before in
+    let a = b .before .before .before .args in
+    let p = e .before .placed .ensures (not-false _ (e .if1 .left)) in (
+      search needs,
+      below-more (PlacedAt (item (a .what .now)) (item (a .order .now)) (item (a .pos .now)) (a .m)) (b .loop .i) (b .loop .inv .1) p,
+      any-more _ _ ∙ or-both-false _ _ (b .loop .inv .2) (sym (c .before .bad-row .ensures) ∙ c .if2 .left),
+    )
 
--- src/order.rt:94:1
 returns-3 : tie.Need-returns-3 Inv-loop μ-loop
-returns-3 c = ?
+unfolding firstBad
+returns-3 c =
+    let b = c .before in
+    let e : b .loop .i ≡ length (b .before .before .before .args .area .now) = omega arith in
+    e ∙ sym (first-or-none _ _ (rw e at (b .loop .inv .2)))
 
 pub first-bad-spec : {M : Type 1} → statement M
 first-bad-spec =

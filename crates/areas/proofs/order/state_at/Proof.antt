@@ -8,7 +8,7 @@ use Rattle.areas.proofs.order.state_at.Statement.{statement}
 use Rattle.areas.proofs.order.state_at.Tie as tie
 
 returns : tie.Need-returns
-returns c = 
+returns c =
     let a = c .before .before .before .args in
     state-at-none (item (a .area .now)) (item (a .what .now)) (item (a .order .now)) (a .k) (c .if1 .taken)
 
@@ -37,7 +37,7 @@ mul-if2 : tie.Need-mul-if2
 mul-if2 c = search needs
 
 shared-slice-read-if2 : tie.Need-shared-slice-read-if2
-shared-slice-read-if2 c = 
+shared-slice-read-if2 c =
     let s = c .before .before .before .before .before .before .before .before in
     let r = s .pre .0 .ascending .row (s .args .k - 1) (omega arith) in
     omega arith
@@ -46,19 +46,19 @@ mul-if2-2 : tie.Need-mul-if2-2
 mul-if2-2 c = search needs
 
 shared-slice-read-if2-2 : tie.Need-shared-slice-read-if2-2
-shared-slice-read-if2-2 c = 
+shared-slice-read-if2-2 c =
     let s = c .before .before .before .before .before .before .before .before .before in
     let r = s .pre .0 .ascending .row (s .args .k) (omega arith) in
     omega arith
 
 returns-2 : tie.Need-returns-2
-returns-2 c = 
+returns-2 c =
     let a = c .before .before .before .before .before .before .before .before .before .before .args in
     let i = c .before .before .before in
     state-at-other (item (a .area .now)) (item (a .what .now)) (item (a .order .now)) (a .k) (a .k - 1) _ _ (omega arith) (i .before .before .wide .ensures .0) (i .wide2 .ensures .0) (c .if2 .taken)
 
 shared-slice-read-after : tie.Need-shared-slice-read-after
-shared-slice-read-after c = 
+shared-slice-read-after c =
     let s = c .before .before .before .before .before .before .before .before .before .before .before in
     let r = s .pre .0 .ascending .row (s .args .k - 1) (omega arith) in
     omega arith
@@ -67,7 +67,7 @@ after-requires : tie.Need-after-requires
 after-requires c κs = search needs
 
 returns-3 : tie.Need-returns-3
-returns-3 c = 
+returns-3 c =
     let a = c .before .before .before .before .before .before .before .before .before .before .before .before .args in
     let i = c .before .before .before .before .before in
     c .after .ensures

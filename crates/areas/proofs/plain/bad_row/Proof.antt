@@ -9,7 +9,7 @@ shared-slice-read-if1 : tie.Need-shared-slice-read-if1
 shared-slice-read-if1 c = search needs
 
 returns : tie.Need-returns
-returns c = 
+returns c =
     let a = c .before .before .before .before .args in
     good-no-area (item (a .area .now)) (item (a .what .now)) (a .i) (c .if1 .taken)
 
@@ -29,7 +29,7 @@ bad-in-requires : tie.Need-bad-in-requires
 bad-in-requires c κs = search needs
 
 returns-2 : tie.Need-returns-2
-returns-2 c = 
+returns-2 c =
     let e = c .before .before .before .before in
     let s = e .before .before .before .before in
     let a = s .args in

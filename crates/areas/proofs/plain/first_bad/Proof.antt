@@ -27,7 +27,7 @@ bad-row-requires c κs = search needs
 
 returns : tie.Need-returns Inv-loop μ-loop
 unfolding firstBad
-returns c = 
+returns c =
     let b = c .before .before .before in
     sym (first-or-at _ _ (b .loop .i) (search needs) (b .loop .inv .1) (sym (c .before .bad-row .ensures) ∙ c .if1 .taken))
 
@@ -38,13 +38,13 @@ loop-less : tie.Need-loop-less Inv-loop μ-loop
 loop-less c = search needs
 
 loop-again : tie.Need-loop-again Inv-loop μ-loop
-loop-again c = 
+loop-again c =
     let b = c .before .before .before in
     (search needs, any-more _ _ ∙ or-both-false _ _ (b .loop .inv .1) (sym (c .before .bad-row .ensures) ∙ c .if1 .left))
 
 returns-2 : tie.Need-returns-2 Inv-loop μ-loop
 unfolding firstBad
-returns-2 c = 
+returns-2 c =
     let b = c .before in
     let e : b .loop .i ≡ length (b .before .before .before .args .area .now) = omega arith in
     e ∙ sym (first-or-none _ _ (rw e at (b .loop .inv .1)))

@@ -36,7 +36,7 @@ after-requires : tie.Need-after-requires Inv-loop μ-loop
 after-requires c κs = search needs
 
 returns : tie.Need-returns Inv-loop μ-loop
-returns c = 
+returns c =
     let b = c .before .before .before .before .before .before in
     let a = b .before .before .before .args in
     let l = b .loop in
@@ -48,7 +48,7 @@ loop-less : tie.Need-loop-less Inv-loop μ-loop
 loop-less c = search needs
 
 loop-again : tie.Need-loop-again Inv-loop μ-loop
-loop-again c = 
+loop-again c =
     let b = c .before .before .before .before in
     let a = b .before .before .before .args in
     let l = b .loop in
@@ -56,7 +56,7 @@ loop-again c =
 
 returns-2 : tie.Need-returns-2 Inv-loop μ-loop
 unfolding state
-returns-2 c = 
+returns-2 c =
     let z : c .before .loop .j ≡ 0 = omega arith in
     rw z at (c .before .loop .inv .1)
 

@@ -7,8 +7,8 @@ use Rattle.areas.specs.Areas.{item}
 use Rattle.areas.specs.Order.{key}
 use Rattle.areas.proofs.OrderLaws.{Checked, checked-none, checked-more}
 use borrow.Author.Needs.{needs}
-use Rattle.areas.proofs.order.ascending.Statement.{statement}
-use Rattle.areas.proofs.order.ascending.Tie as tie
+use Rattle.areas.proofs.order.ordered.Statement.{statement}
+use Rattle.areas.proofs.order.ordered.Tie as tie
 
 abbrev Inv-loop : tie.InvT-loop
 Inv-loop area what order m k₀ least₀ k least = (k ≤ m) × Checked (item area) (item what) (item order) (length area) k least
@@ -53,7 +53,7 @@ loop-less : tie.Need-loop-less Inv-loop μ-loop
 loop-less c = search needs
 
 loop-again : tie.Need-loop-again Inv-loop μ-loop
-loop-again c = 
+loop-again c =
     let d = c .before .before .before .before .before in
     let b = d .before .before .before in
     let a = b .before .before .before .args in
@@ -62,13 +62,13 @@ loop-again c =
     (search needs, rw e (checked-more _ _ _ _ _ _ (b .loop .inv .1) (omega arith) (rw i at (c .before .before .if2 .left)) (omega arith)))
 
 returns-4 : tie.Need-returns-4 Inv-loop μ-loop
-returns-4 c = 
+returns-4 c =
     let a = c .before .before .before .before .args in
     let z : c .before .loop .k ≡ a .m = omega arith in
-    λ e. rw z at (c .before .loop .inv .1 .ascending)
+    λ e. record { even = search needs; rows = search needs; entries = search needs; ascending = rw z at (c .before .loop .inv .1 .ascending) }
 
-pub ascending-spec : {M : Type 1} → statement M
-ascending-spec =
+pub ordered-spec : {M : Type 1} → statement M
+ordered-spec =
     tie.close
     (tie.spec
     Inv-loop
