@@ -1,18 +1,20 @@
 -- In an order whose keys ascend, the entry before a row is the latest earlier row that names its area, if there is one.
 use mathlib.Core.Path.{_≡_, refl, sym, ap, _∙_}
 use mathlib.Core.Bool.{Bool, true, false}
+use mathlib.Core.List.{List}
 use mathlib.Core.Logic.{_≢_, _⊎_, inl, inr}
 use Prim.Native.Nat.{ℕ, zero, suc, _+_, _*_, _≤_, _<_}
 use native.Mathlib.Nat.{not-suc-le-zero, eq-or-lt-of-le}
 use native.Mathlib.Omega.{arith}
 use native.Mathlib.Decide.{decLt}
 use lib.Dec.{eqb}
+use lib.ListN.{length}
 use borrow.Author.Count.{below-more}
 use borrow.Author.Tests.{eq-eqb, eqb-true, eqb-false, ne-eqb}
 use Rattle.rows.proofs.BelowLaws.{top}
-use Rattle.areas.specs.Areas.{limit}
-use Rattle.areas.specs.Order.{after, state, key, Ascending, Placed, stateAt}
-use Rattle.areas.proofs.StateLaws.{Names, state-none, state-last}
+use Rattle.areas.specs.Areas.{limit, item, badRow}
+use Rattle.areas.specs.Order.{after, badIn, state, key, Ascending, Ordered, Placed, Reached, stateAt}
+use Rattle.areas.proofs.StateLaws.{Names, state-none, state-last, bad-by-state}
 
 -- ---- the check of the order, entry by entry
 
@@ -58,7 +60,7 @@ module _ (a w o pos : ℕ → ℕ) (n m : ℕ) (A : Ascending a w o n m) where
           late (inl q) = let z : j ≡ i = sym f ∙ ap o (sym q) ∙ e in absurd (omega arith)
           late (inr g) = let z = above k l i j g lm e f in absurd (omega arith)
 
-  pub state-by-order : n ≤ limit → (i k : ℕ) → i < n → k < m → o k ≡ i → Placed w o pos m i → stateAt a w o k ≡ state a w i (a i)
+  state-by-order : n ≤ limit → (i k : ℕ) → i < n → k < m → o k ≡ i → Placed w o pos m i → stateAt a w o k ≡ state a w i (a i)
   unfolding stateAt
   state-by-order small i zero il kl e P =
       sym (state-none a w i (a i) (λ j l s. let (p, q) = P j l (s .1) in not-suc-le-zero (earlier i 0 j (pos j) kl e l (s .0) p q)))
@@ -91,6 +93,15 @@ module _ (a w o pos : ℕ → ℕ) (n m : ℕ) (A : Ascending a w o n m) where
           no : (j : ℕ) → j < i → a j ≡ a i → (j ≡ o k) ⊎ (key a j < key a (o k)) → ⊥
           no j l f (inl q) = eqb-false _ _ t (ap a (sym q) ∙ f)
           no j l f (inr h) = let s : a (o k) ≡ a i → ⊥ = eqb-false _ _ t in omega (arith, pb, pi)
+
+-- the test by the state of the entry before is the definition's
+pub bad-by-order : {area what order pos : List ℕ} {m i k s : ℕ} → Ordered area what order m → Reached area what order pos m i → item what i ≢ 3
+    → k ≡ item pos i → s ≡ stateAt (item area) (item what) (item order) k → badIn (item what i) s ≡ badRow (item area) (item what) i
+bad-by-order {area} {what} {order} {pos} {m} {i} {k} {s} O R named e f =
+    let (l, g) = R .placed i (omega arith) named in
+    let t = state-by-order (item area) (item what) (item order) (item pos) (length area) m (O .ascending) (O .rows)
+    i k (R .row) (omega arith) (rw e g) (λ j h. R .placed j (omega arith)) in
+    bad-by-state (item area) (item what) i s (R .good) named (f ∙ t)
 
 -- the three cases of `stateAt`, with p the entry before and i the entry at place k
 module _ (a w o : ℕ → ℕ) where

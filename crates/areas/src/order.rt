@@ -1,11 +1,10 @@
 // The answer by an order of the rows that name an area, which is checked: the latest earlier row that names a row's area is then the entry before it.
-ghost use mathlib.Core.Bool.{true, false};
+ghost use mathlib.Core.Bool.{true};
 ghost use mathlib.Core.Path.{_≡_};
-ghost use Prim.Native.Nat.{_+_, _*_, _<_, _≤_};
+ghost use Prim.Native.Nat.{_*_, _<_, _≤_};
 ghost use lib.ListN.{length};
-ghost use Rattle.rows.specs.Below.{anyBelow};
 ghost use Rattle.areas.specs.Areas.{limit, item, badRow, firstBad};
-ghost use Rattle.areas.specs.Order.{key, Ordered, PlacedAt, Placed, stateAt};
+ghost use Rattle.areas.specs.Order.{key, Ordered, PlacedAt, Reached, stateAt};
 use crate::NO_AREA;
 use crate::ROWS;
 use crate::plain;
@@ -77,7 +76,7 @@ fn state_at(area: &[u32], what: &[u8], order: &[u16; ROWS], m: usize, k: usize) 
     state::after(what[p])
 }
 
-// Whether row i is bad, where no earlier row is, and rows up to i stand at their places.
+// Whether row i is bad, where no earlier row is.
 fn bad_row(
     area: &[u32],
     what: &[u8],
@@ -87,7 +86,7 @@ fn bad_row(
     i: usize,
 ) -> bool
     requires { ⌜ Ordered (now area) (now what) (now order) m ⌝ }
-    requires { ⌜ (i < length (now area)) × Placed (item (now what)) (item (now order)) (item (now pos)) m (i + 1) × (anyBelow i (badRow (item (now area)) (item (now what))) ≡ false) ⌝ }
+    requires { ⌜ Reached (now area) (now what) (now order) (now pos) m i ⌝ }
     ensures { λ r. ⌜ r ≡ badRow (item (now (area .entry))) (item (now (what .entry))) i ⌝ }
 {
     if what[i] == NO_AREA {

@@ -9,7 +9,7 @@ use Rattle.rows.specs.Below.{anyBelow}
 use Rattle.rows.proofs.Bools.{or-both-false}
 use Rattle.rows.proofs.BelowLaws.{any-more}
 use Rattle.areas.specs.Areas.{item, badRow, firstBad}
-use Rattle.areas.specs.Order.{PlacedAt, Placed}
+use Rattle.areas.specs.Order.{Placed}
 use Rattle.areas.proofs.AreaLaws.{first-or-at, first-or-none}
 use borrow.Author.Needs.{needs}
 use Rattle.areas.proofs.order.first_bad.Statement.{statement}
@@ -38,9 +38,8 @@ bad-row-requires : tie.Need-bad-row-requires Inv-loop μ-loop
 bad-row-requires c κs =
     let b = c .before .before .before in
     let s = b .before .before .before in
-    let a = s .args in
     let p = c .before .placed .ensures (not-false _ (c .if1 .left)) in
-    (s .pre, (search needs, below-more (PlacedAt (item (a .what .now)) (item (a .order .now)) (item (a .pos .now)) (a .m)) (b .loop .i) (b .loop .inv .1) p, b .loop .inv .2))
+    (s .pre, record { row = search needs; placed = below-more _ _ (b .loop .inv .1) p; good = b .loop .inv .2 })
 
 returns-2 : tie.Need-returns-2 Inv-loop μ-loop
 unfolding firstBad
@@ -58,10 +57,9 @@ loop-again : tie.Need-loop-again Inv-loop μ-loop
 loop-again c =
     let e = c .before .before in
     let b = e .before .before .before in
-    let a = b .before .before .before .args in
     let p = e .before .placed .ensures (not-false _ (e .if1 .left)) in (
       search needs,
-      below-more (PlacedAt (item (a .what .now)) (item (a .order .now)) (item (a .pos .now)) (a .m)) (b .loop .i) (b .loop .inv .1) p,
+      below-more _ _ (b .loop .inv .1) p,
       any-more _ _ ∙ or-both-false _ _ (b .loop .inv .2) (sym (c .before .bad-row .ensures) ∙ c .if2 .left),
     )
 

@@ -1,16 +1,13 @@
 use mathlib.Core.Path.{_∙_}
 use Prim.Native.Nat.{_-_}
 use native.Mathlib.Omega.{arith}
-use Rattle.areas.specs.Areas.{item}
 use Rattle.areas.proofs.OrderLaws.{state-at-none, state-at-other, state-at-same}
 use borrow.Author.Needs.{needs}
 use Rattle.areas.proofs.order.state_at.Statement.{statement}
 use Rattle.areas.proofs.order.state_at.Tie as tie
 
 returns : tie.Need-returns
-returns c =
-    let a = c .before .before .before .args in
-    state-at-none (item (a .area .now)) (item (a .what .now)) (item (a .order .now)) (a .k) (c .if1 .taken)
+returns c = state-at-none _ _ _ _ (c .if1 .taken)
 
 sub-wide : tie.Need-sub-wide
 sub-wide c = search needs
@@ -53,9 +50,8 @@ shared-slice-read-if2-2 c =
 
 returns-2 : tie.Need-returns-2
 returns-2 c =
-    let a = c .before .before .before .before .before .before .before .before .before .before .args in
     let i = c .before .before .before in
-    state-at-other (item (a .area .now)) (item (a .what .now)) (item (a .order .now)) (a .k) (a .k - 1) _ _ (omega arith) (i .before .before .wide .ensures .0) (i .wide2 .ensures .0) (c .if2 .taken)
+    state-at-other _ _ _ _ _ _ _ (omega arith) (i .before .before .wide .ensures .0) (i .wide2 .ensures .0) (c .if2 .taken)
 
 shared-slice-read-after : tie.Need-shared-slice-read-after
 shared-slice-read-after c =
@@ -68,10 +64,9 @@ after-requires c κs = search needs
 
 returns-3 : tie.Need-returns-3
 returns-3 c =
-    let a = c .before .before .before .before .before .before .before .before .before .before .before .before .args in
     let i = c .before .before .before .before .before in
     c .after .ensures
-    ∙ state-at-same (item (a .area .now)) (item (a .what .now)) (item (a .order .now)) (a .k) (a .k - 1) _ _ (omega arith) (i .before .before .wide .ensures .0) (i .wide2 .ensures .0) (c .before .before .if2 .left)
+    ∙ state-at-same _ _ _ _ _ _ _ (omega arith) (i .before .before .wide .ensures .0) (i .wide2 .ensures .0) (c .before .before .if2 .left)
 
 pub state-at-spec : {M : Type 1} → statement M
 state-at-spec =

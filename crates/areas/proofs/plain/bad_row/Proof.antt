@@ -1,5 +1,4 @@
 use mathlib.Core.Path.{_∙_}
-use Rattle.areas.specs.Areas.{item}
 use Rattle.areas.proofs.StateLaws.{bad-by-state, good-no-area}
 use borrow.Author.Needs.{needs}
 use Rattle.areas.proofs.plain.bad_row.Statement.{statement}
@@ -9,9 +8,7 @@ shared-slice-read-if1 : tie.Need-shared-slice-read-if1
 shared-slice-read-if1 c = search needs
 
 returns : tie.Need-returns
-returns c =
-    let a = c .before .before .before .before .args in
-    good-no-area (item (a .area .now)) (item (a .what .now)) (a .i) (c .if1 .taken)
+returns c = good-no-area _ _ _ (c .if1 .taken)
 
 mul-state-of : tie.Need-mul-state-of
 mul-state-of c = search needs
@@ -32,8 +29,7 @@ returns-2 : tie.Need-returns-2
 returns-2 c =
     let e = c .before .before .before .before in
     let s = e .before .before .before .before in
-    let a = s .args in
-    c .bad-in .ensures ∙ bad-by-state (item (a .area .now)) (item (a .what .now)) (a .i) _ (s .pre .1) (e .if1 .left) (c .before .before .state-of .ensures)
+    c .bad-in .ensures ∙ bad-by-state _ _ _ _ (s .pre .1) (e .if1 .left) (c .before .before .state-of .ensures)
 
 pub bad-row-spec : {M : Type 1} → statement M
 bad-row-spec =

@@ -38,11 +38,7 @@ after-requires c κs = search needs
 returns : tie.Need-returns Inv-loop μ-loop
 returns c =
     let b = c .before .before .before .before .before .before in
-    let a = b .before .before .before .args in
-    let l = b .loop in
-    c .after .ensures
-    ∙ sym (state-here (item (a .area .now)) (item (a .what .now)) (l .j) (l .j - 1) (a .x) (omega arith) (c .before .before .if1 .taken))
-    ∙ l .inv .1
+    c .after .ensures ∙ sym (state-here _ _ _ _ _ (omega arith) (c .before .before .if1 .taken)) ∙ b .loop .inv .1
 
 loop-less : tie.Need-loop-less Inv-loop μ-loop
 loop-less c = search needs
@@ -50,9 +46,7 @@ loop-less c = search needs
 loop-again : tie.Need-loop-again Inv-loop μ-loop
 loop-again c =
     let b = c .before .before .before .before in
-    let a = b .before .before .before .args in
-    let l = b .loop in
-    (search needs, sym (state-back (item (a .area .now)) (item (a .what .now)) (l .j) (l .j - 1) (a .x) (omega arith) (c .if1 .left)) ∙ l .inv .1)
+    (search needs, sym (state-back _ _ _ _ _ (omega arith) (c .if1 .left)) ∙ b .loop .inv .1)
 
 returns-2 : tie.Need-returns-2 Inv-loop μ-loop
 unfolding state
