@@ -41,7 +41,7 @@ module _ (n : ℕ) (a w b v : ℕ → ℕ) (same : (j : ℕ) → j < n → (a j 
   unfolding named
   named-same k i x l = any-same-tests i _ _ (λ j g. let (p, q) = same j (omega arith) in rw (p, q))
 
-  -- a row is judged by the rows up to it
+  -- whether a row is bad depends on the rows up to it alone
   pub bad-row-same : (i : ℕ) → i < n → badRow a w i ≡ badRow b v i
   unfolding badRow isAllocated
   bad-row-same i l =
@@ -51,7 +51,7 @@ module _ (n : ℕ) (a w b v : ℕ → ℕ) (same : (j : ℕ) → j < n → (a j 
   pub first-bad-same : firstBelow n (badRow a w) ≡ firstBelow n (badRow b v)
   first-bad-same = first-same-tests n (badRow a w) (badRow b v) bad-row-same
 
--- lists whose first n items are the rows of a and w, cut to n
+-- the first n items of longer lists, which hold the rows of a and w
 pub first-bad-take : (n : ℕ) (xs ys : List ℕ) (a w : ℕ → ℕ) → n ≤ length xs → ((j : ℕ) → j < n → (item xs j ≡ a j) × (item ys j ≡ w j))
     → firstBad (take n xs) (take n ys) ≡ firstOr n (firstBelow n (badRow a w))
 unfolding firstBad

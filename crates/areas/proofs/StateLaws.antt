@@ -54,7 +54,7 @@ state-last a w (suc n) x p l e h = go (state-last a w n x p) (top l)
 
 -- ---- the state is what the earlier rows say of the area, if none of them is bad
 
-pub record Agrees (a w : ℕ → ℕ) (n x : ℕ) : Type 0 where
+record Agrees (a w : ℕ → ℕ) (n x : ℕ) : Type 0 where
   pub allocated : named a w 0 n x ≡ not (eqb (state a w n x) 0)
   pub inserted : named a w 2 n x ≡ eqb (state a w n x) 2
 

@@ -1,5 +1,5 @@
--- Refusal 32 over all directive rows. Row i names area `a i`, and `w i` says how: 0 allocates it, 2 inserts it, 3 names no area, any other number
--- (1) uses it.
+-- Refusal 32 over all directive rows. Row i names area `a i`, and `w i` says how: 0 allocates it, 1 uses it, 2 inserts it, 3 names no area.
+-- (Any other number is taken as 1.)
 use Prim.Native.Nat.{ℕ}
 use mathlib.Core.Bool.{Bool, false, not, _&&_, cond}
 use mathlib.Core.List.{List}
@@ -25,11 +25,12 @@ module _ (a w : ℕ → ℕ) where
   unfoldable pub badRow : ℕ → Bool
   badRow i = cond (eqb (w i) 3) false (cond (eqb (w i) 0) (named 0 i (a i)) (not (isAllocated i (a i))))
 
--- the index that was found, else n
+-- the index that is there, else n
 abbrev pub firstOr : ℕ → Option ℕ → ℕ
 firstOr n none = n
 firstOr n (some i) = i
 
+-- the number at an index
 abbrev pub item : List ℕ → ℕ → ℕ
 item xs i = getD xs i 0
 

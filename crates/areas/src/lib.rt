@@ -1,4 +1,4 @@
-// The area rule, refusal 32, over all directive rows at once: which row is the first that breaks it.
+// The area rule, refusal 32, over all directive rows at once: the first row that breaks it.
 ghost use mathlib.Core.Path.{_≡_};
 ghost use Prim.Native.Nat.{_<_, _≤_};
 ghost use lib.ListN.{length};
@@ -15,7 +15,7 @@ const ROWS: usize = 1024;
 // From this many rows on the sort is faster.
 const SORT_FROM: usize = 96;
 
-// How a row names an area. Any other number than these is a use.
+// How a row names an area. Any other number is taken as USE.
 pub const ALLOCATE: u8 = 0;
 
 pub const USE: u8 = 1;
@@ -36,7 +36,7 @@ fn wide_u32(x: u32) -> usize
     x as usize
 }
 
-// The first bad row by a sort. Nothing is promised of the order that the sort makes: it is checked, and where it fails the plain form answers.
+// The first bad row by a sort. The sort promises nothing: its order is checked, and where the check fails the plain form answers.
 fn first_bad_sorted(area: &[u32], what: &[u8]) -> usize
     requires { ⌜ (length (now area) ≡ length (now what)) × (length (now area) ≤ limit) ⌝ }
     ensures { λ r. ⌜ r ≡ firstBad (now (area .entry)) (now (what .entry)) ⌝ }

@@ -1,4 +1,5 @@
-// The answer by an order of the rows that name an area, which is checked: the latest earlier row that names a row's area is then the entry before it.
+// The answer by an order of the rows that name an area, by area and row. Once that is checked, the latest earlier row that names a row's area is
+// the entry before it.
 ghost use mathlib.Core.Bool.{true};
 ghost use mathlib.Core.Path.{_≡_};
 ghost use Prim.Native.Nat.{_*_, _<_, _≤_};
@@ -12,6 +13,7 @@ use crate::state;
 use crate::wide;
 use crate::wide_u32;
 
+// Area and row as one number.
 fn key_of(area: &[u32], i: usize) -> usize
     requires { ⌜ (i < length (now area)) × (length (now area) ≤ limit) ⌝ }
     ensures { λ r. ⌜ (r ≡ key (item (now (area .entry))) i) × (r < 4294967296 * limit) ⌝ }

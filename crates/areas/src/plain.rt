@@ -37,6 +37,7 @@ fn bad_row(area: &[u32], what: &[u8], i: usize) -> bool
     state::bad_in(what[i], s)
 }
 
+// The first bad row, or the number of rows.
 pub fn first_bad(area: &[u32], what: &[u8]) -> usize
     requires { ⌜ length (now area) ≡ length (now what) ⌝ }
     ensures { λ r. ⌜ r ≡ firstBad (now (area .entry)) (now (what .entry)) ⌝ }

@@ -65,7 +65,7 @@ returns-4 : tie.Need-returns-4 Inv-loop μ-loop
 returns-4 c =
     let a = c .before .before .before .before .args in
     let z : c .before .loop .k ≡ a .m = omega arith in
-    λ e. record { even = search needs; rows = search needs; entries = search needs; ascending = rw z at (c .before .loop .inv .1 .ascending) }
+    λ e. record { lengths = search needs; rows = search needs; entries = search needs; ascending = rw z at (c .before .loop .inv .1 .ascending) }
 
 pub ordered-spec : {M : Type 1} → statement M
 ordered-spec =
