@@ -87,9 +87,14 @@ module _ (r : RelocRegions) (new : Region) (room : r .count < 64) where
   entry-before : (i : ℕ) → i < r .count → entry (stored r new) i ≡ entry r i
   entry-before i l =
       let ne : (i ≡ r .count → ⊥) = λ e. omega arith in
-      rw (getD-set-other (r .mask) (r .count) i (new .mask) 0 ne, getD-set-other (r .gpa) (r .count) i (new .gpa) 0 ne,
-      getD-set-other (r .size) (r .count) i (new .size) 0 ne, getD-set-other (r .«vp_index») (r .count) i (new .«vp_index») 0 ne,
-      getD-set-other (r .vtl) (r .count) i (new .vtl) 0 ne, getD-set-other (r .«page_table») (r .count) i (new .«page_table») false ne)
+      rw (
+        getD-set-other (r .mask) (r .count) i (new .mask) 0 ne,
+        getD-set-other (r .gpa) (r .count) i (new .gpa) 0 ne,
+        getD-set-other (r .size) (r .count) i (new .size) 0 ne,
+        getD-set-other (r .«vp_index») (r .count) i (new .«vp_index») 0 ne,
+        getD-set-other (r .vtl) (r .count) i (new .vtl) 0 ne,
+        getD-set-other (r .«page_table») (r .count) i (new .«page_table») false ne,
+      )
 
   pub stored-pushed : length (r .mask) ≡ 64 → length (r .gpa) ≡ 64 → length (r .size) ≡ 64 → length (r .«vp_index») ≡ 64 → length (r .vtl) ≡ 64 → length (r .«page_table») ≡ 64
       → Pushed r new (stored r new)
@@ -97,13 +102,18 @@ module _ (r : RelocRegions) (new : Region) (room : r .count < 64) where
       record {
         count = refl;
         same =
-        λ p.
-        any-more (r .count) (λ i. p (entry (stored r new) i))
-        ∙ ap₂ (λ (a b : Bool). a || b) (any-same-tests (r .count) (λ i. p (entry (stored r new) i)) (λ i. p (entry r i)) (λ i l. ap p (entry-before i l))) (ap p last);
+            λ p.
+            any-more (r .count) (λ i. p (entry (stored r new) i))
+            ∙ ap₂ (λ (a b : Bool). a || b) (any-same-tests (r .count) (λ i. p (entry (stored r new) i)) (λ i. p (entry r i)) (λ i l. ap p (entry-before i l))) (ap p last);
       }
     where
       last : entry (stored r new) (r .count) ≡ new
       last =
-          rw (getD-set-same (r .mask) (r .count) (new .mask) 0 (omega arith), getD-set-same (r .gpa) (r .count) (new .gpa) 0 (omega arith),
-          getD-set-same (r .size) (r .count) (new .size) 0 (omega arith), getD-set-same (r .«vp_index») (r .count) (new .«vp_index») 0 (omega arith),
-          getD-set-same (r .vtl) (r .count) (new .vtl) 0 (omega arith), getD-set-same (r .«page_table») (r .count) (new .«page_table») false (omega arith))
+          rw (
+            getD-set-same (r .mask) (r .count) (new .mask) 0 (omega arith),
+            getD-set-same (r .gpa) (r .count) (new .gpa) 0 (omega arith),
+            getD-set-same (r .size) (r .count) (new .size) 0 (omega arith),
+            getD-set-same (r .«vp_index») (r .count) (new .«vp_index») 0 (omega arith),
+            getD-set-same (r .vtl) (r .count) (new .vtl) 0 (omega arith),
+            getD-set-same (r .«page_table») (r .count) (new .«page_table») false (omega arith),
+          )

@@ -2,40 +2,28 @@ use Rattle.initializations.specs.Initializations.{validateTable}
 use borrow.Author.Needs.{needs}
 use Rattle.initializations.proofs.validate_table.Statement.{statement}
 use Rattle.initializations.proofs.validate_table.Tie as tie
-use Rattle.initializations.proofs.validate_table.Reads as reads
-use Rattle.initializations.proofs.validate_table.Lts as lts
-use Rattle.addresses.proofs.on_page.Reads as on-page-reads
-use Rattle.igvm_defs.proofs.refuse.Reads as refuse-reads
 
--- src/lib.rt:61:10
 on-page-requires : tie.Need-on-page-requires
 on-page-requires c κs = search needs
 
--- src/lib.rt:65:14
 on-page-requires-2 : tie.Need-on-page-requires-2
 on-page-requires-2 c κs = search needs
 
--- src/lib.rt:69:18
 on-page-requires-3 : tie.Need-on-page-requires-3
 on-page-requires-3 c κs = search needs
 
--- src/lib.rt:72:17
 refuse-requires : tie.Need-refuse-requires
 refuse-requires c κs = search needs
 
--- src/lib.rt:68:13
 refuse-requires-2 : tie.Need-refuse-requires-2
 refuse-requires-2 c κs = search needs
 
--- src/lib.rt:64:9
 refuse-requires-3 : tie.Need-refuse-requires-3
 refuse-requires-3 c κs = search needs
 
--- src/lib.rt:60:5
 refuse-requires-4 : tie.Need-refuse-requires-4
 refuse-requires-4 c κs = search needs
 
--- src/lib.rt:57:1
 returns : tie.Need-returns
 unfolding validateTable
 returns c = cc

@@ -14,10 +14,6 @@ use Rattle.platforms.specs.Record.{lastTypeIsCca}
 use Rattle.initializations.specs.Initializations.{refuseBit}
 use Rattle.initializations.proofs.without_cca.Statement.{statement}
 use Rattle.initializations.proofs.without_cca.Tie as tie
-use Rattle.initializations.proofs.without_cca.Reads as reads
-use Rattle.initializations.proofs.without_cca.Lts as lts
-use Rattle.masks.proofs.extract_individual_masks.Reads as extract-individual-masks-reads
-use Rattle.platforms.proofs.Platforms.last_is_cca.Reads as last-is-cca-reads
 
 -- the bit's last platform is not CCA
 abbrev without : Platforms → ℕ → Bool
@@ -33,32 +29,25 @@ Inv-loop platforms mask bits n i₀ i = (i ≤ n) × (firstMask (without platfor
 abbrev μ-loop : tie.MeasureT-loop
 μ-loop platforms mask bits n i₀ i = n - i
 
--- src/lib.rt:361:16
 extract-individual-masks-requires : tie.Need-extract-individual-masks-requires Inv-loop μ-loop
 extract-individual-masks-requires c κs = search needs
 
--- src/lib.rt:364:5
 loop-holds : tie.Need-loop-holds Inv-loop μ-loop
 unfolding firstMask
 loop-holds c = (search needs, refl)
 
--- src/lib.rt:365:19
 mul-bit : tie.Need-mul-bit Inv-loop μ-loop
 mul-bit c = search needs
 
--- src/lib.rt:365:19
 element-copy-out-bit : tie.Need-element-copy-out-bit Inv-loop μ-loop
 element-copy-out-bit c = search needs
 
--- src/lib.rt:366:13
 last-is-cca-requires : tie.Need-last-is-cca-requires Inv-loop μ-loop
 last-is-cca-requires c κs = search needs
 
--- src/lib.rt:369:25
 cast-t14 : tie.Need-cast-t14 Inv-loop μ-loop
 cast-t14 c = search needs
 
--- src/lib.rt:367:13
 returns : tie.Need-returns Inv-loop μ-loop
 returns c =
     let s = c .before .before .before .before .before in
@@ -69,15 +58,12 @@ returns c =
     let first = first-mask-stop p (bits .masks) (bits .count) (c .before .before .before .before .loop .i) (search needs) (omega arith) (c .before .before .before .before .loop .inv .1) found in
     sym (ap fault25 (ap (firstMask p) (sym (s .extract-individual-masks .ensures .0)) ∙ first))
 
--- src/lib.rt:372:9
 add-i : tie.Need-add-i Inv-loop μ-loop
 add-i c = search needs
 
--- src/lib.rt:364:5
 loop-less : tie.Need-loop-less Inv-loop μ-loop
 loop-less c = search needs
 
--- src/lib.rt:364:5
 loop-again : tie.Need-loop-again Inv-loop μ-loop
 loop-again c =
     let s = c .before .before .before .before .before in
@@ -88,7 +74,6 @@ loop-again c =
     let l : length (bits .masks) ≡ 32 = search needs in
     (search needs, rw (first-mask-more p (bits .masks) i (omega arith), c .before .before .before .before .loop .inv .1, none-here))
 
--- src/lib.rt:357:1
 returns-2 : tie.Need-returns-2 Inv-loop μ-loop
 returns-2 c =
     let s = c .before .before in

@@ -8,10 +8,6 @@ use Rattle.initializations.specs.Regions.{overlap}
 use Rattle.initializations.specs.Record.{entry}
 use Rattle.initializations.proofs.RelocRegions.any_overlap.Statement.{statement}
 use Rattle.initializations.proofs.RelocRegions.any_overlap.Tie as tie
-use Rattle.initializations.proofs.RelocRegions.any_overlap.Reads as reads
-use Rattle.initializations.proofs.RelocRegions.any_overlap.Lts as lts
-use Rattle.initializations.proofs.RelocRegions.entry.Reads as entry-reads
-use Rattle.initializations.proofs.overlap.Reads as overlap-reads
 
 abbrev Inv-loop : tie.InvT-loop
 Inv-loop self r n i₀ found₀ i found = (i ≤ n) × (found ≡ anyBelow i (λ j. overlap r (entry self j)))
@@ -19,32 +15,25 @@ Inv-loop self r n i₀ found₀ i found = (i ≤ n) × (found ≡ anyBelow i (λ
 abbrev μ-loop : tie.MeasureT-loop
 μ-loop self r n i₀ found₀ i found = n - i
 
--- src/lib.rt:230:9
 loop-holds : tie.Need-loop-holds Inv-loop μ-loop
 unfolding anyBelow
 loop-holds c = (search needs, refl)
 
--- src/lib.rt:231:40
 entry-requires : tie.Need-entry-requires Inv-loop μ-loop
 entry-requires c κs = search needs
 
--- src/lib.rt:231:29
 overlap-requires : tie.Need-overlap-requires Inv-loop μ-loop
 overlap-requires c κs = search needs
 
--- src/lib.rt:232:13
 add-i : tie.Need-add-i Inv-loop μ-loop
 add-i c = search needs
 
--- src/lib.rt:230:9
 loop-less : tie.Need-loop-less Inv-loop μ-loop
 loop-less c = search needs
 
--- src/lib.rt:230:9
 loop-again : tie.Need-loop-again Inv-loop μ-loop
 loop-again c = (search needs, rw any-more (cc))
 
--- src/lib.rt:223:5
 returns : tie.Need-returns Inv-loop μ-loop
 returns c =
     let e : c .before .loop .i ≡ c .before .before .args .self .count = omega arith in

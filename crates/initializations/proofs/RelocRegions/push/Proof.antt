@@ -2,54 +2,40 @@ use Rattle.initializations.proofs.RecordLaws.{stored-pushed}
 use borrow.Author.Needs.{needs}
 use Rattle.initializations.proofs.RelocRegions.push.Statement.{statement}
 use Rattle.initializations.proofs.RelocRegions.push.Tie as tie
-use Rattle.initializations.proofs.RelocRegions.push.Reads as reads
-use Rattle.initializations.proofs.RelocRegions.push.Lts as lts
 
--- src/lib.rt:197:9
 mul-next : tie.Need-mul-next
 mul-next c = search needs
 
--- src/lib.rt:197:9
 element-write-next : tie.Need-element-write-next
 element-write-next c = search needs
 
--- src/lib.rt:198:9
 mul-next-2 : tie.Need-mul-next-2
 mul-next-2 c = search needs
 
--- src/lib.rt:198:9
 element-write-next-2 : tie.Need-element-write-next-2
 element-write-next-2 c = search needs
 
--- src/lib.rt:199:9
 mul-next-3 : tie.Need-mul-next-3
 mul-next-3 c = search needs
 
--- src/lib.rt:199:9
 element-write-next-3 : tie.Need-element-write-next-3
 element-write-next-3 c = search needs
 
--- src/lib.rt:200:9
 mul-next-4 : tie.Need-mul-next-4
 mul-next-4 c = search needs
 
--- src/lib.rt:200:9
 element-write-next-4 : tie.Need-element-write-next-4
 element-write-next-4 c = search needs
 
--- src/lib.rt:201:9
 element-write-next-5 : tie.Need-element-write-next-5
 element-write-next-5 c = search needs
 
--- src/lib.rt:202:9
 element-write-next-6 : tie.Need-element-write-next-6
 element-write-next-6 c = search needs
 
--- src/lib.rt:203:22
 add-next : tie.Need-add-next
 add-next c = search needs
 
--- src/lib.rt:191:5
 returns : tie.Need-returns
 returns c =
     let a = c .args in
