@@ -150,6 +150,32 @@ fn table_holds(mask: u32, gpa: u64, r: Region) -> bool
     r.page_table & masks::shares(r.mask, mask) & addresses::contains(r.gpa, r.size, gpa)
 }
 
+// 26, 27, 28 and 29: a region whose header alone has the fault `own`, by what the regions before it tell.
+fn region_fault(own: Fault, shares: bool, overlaps: bool, r: Region) -> Fault
+    ensures { λ f. ⌜ f ≡ regionFault own shares overlaps r ⌝ }
+{
+    let beyond = addresses::ends_beyond(r.gpa, r.size);
+    igvm_defs::or_fault(
+        own,
+        igvm_defs::refuse(
+            shares,
+            26,
+            0,
+            igvm_defs::refuse(
+                r.size == 0,
+                27,
+                0,
+                igvm_defs::refuse(
+                    beyond,
+                    28,
+                    0,
+                    igvm_defs::refuse(overlaps, 29, 0, Fault::NONE),
+                ),
+            ),
+        ),
+    )
+}
+
 impl RelocRegions {
     pub fn new() -> RelocRegions
         ensures { λ r. ⌜ r .count ≡ 0 ⌝ }
@@ -245,25 +271,7 @@ impl RelocRegions {
         requires { ⌜ self .count < 64 ⌝ }
         ensures { λ s. ⌜ (s .fault ≡ regionFault own (anyRegion (tablesShare r) self) (anyRegion (overlap r) self) r) × Pushed self r (s .regions) ⌝ }
     {
-        let fault = igvm_defs::or_fault(
-            own,
-            igvm_defs::refuse(
-                self.any_tables_share(r),
-                26,
-                0,
-                igvm_defs::refuse(
-                    r.size == 0,
-                    27,
-                    0,
-                    igvm_defs::refuse(
-                        addresses::ends_beyond(r.gpa, r.size),
-                        28,
-                        0,
-                        igvm_defs::refuse(self.any_overlap(r), 29, 0, Fault::NONE),
-                    ),
-                ),
-            ),
-        );
+        let fault = region_fault(own, self.any_tables_share(r), self.any_overlap(r), r);
         let regions = self.push(r);
         InitializationStep { regions, fault }
     }
