@@ -1,6 +1,6 @@
 -- Laws of the definitions of specs/Areas.antt.
 use mathlib.Core.Path.{_≡_, refl, sym, ap, _∙_}
-use mathlib.Core.Bool.{Bool, true, false}
+use mathlib.Core.Bool.{Bool, true, false, cond, not, _&&_}
 use mathlib.Core.List.{List}
 use mathlib.Core.Option.{Option, none, some}
 use Prim.Native.Nat.{ℕ, _≤_, _<_}
@@ -50,6 +50,13 @@ module _ (n : ℕ) (a w b v : ℕ → ℕ) (same : (j : ℕ) → j < n → (a j 
 
   pub first-bad-same : firstBelow n (badRow a w) ≡ firstBelow n (badRow b v)
   first-bad-same = first-same-tests n (badRow a w) (badRow b v) bad-row-same
+
+-- the rule by tests A (the row allocates row i's area) and I (it inserts it) of the earlier rows
+pub bad-row-tests : (a w : ℕ → ℕ) (i : ℕ) (A I : ℕ → Bool) → ((j : ℕ) → j < i → (eqb (w j) 0 && eqb (a i) (a j)) ≡ A j)
+    → ((j : ℕ) → j < i → (eqb (w j) 2 && eqb (a i) (a j)) ≡ I j)
+    → badRow a w i ≡ cond (eqb (w i) 3) false (cond (eqb (w i) 0) (anyBelow i A) (not (anyBelow i A && not (anyBelow i I))))
+unfolding badRow isAllocated named
+bad-row-tests a w i A I f g = rw (any-same-tests i _ A f, any-same-tests i _ I g)
 
 -- the first n items of longer lists, which hold the rows of a and w
 pub first-bad-take : (n : ℕ) (xs ys : List ℕ) (a w : ℕ → ℕ) → n ≤ length xs → ((j : ℕ) → j < n → (item xs j ≡ a j) × (item ys j ≡ w j))
