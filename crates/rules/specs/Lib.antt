@@ -4,3 +4,6 @@ pub mod Initializations
 pub mod Directives
 pub mod Verdict
 pub mod Relocations
+pub mod Accepted
+pub mod Reordered
+pub mod Sound
