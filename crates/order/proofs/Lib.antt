@@ -1,3 +1,5 @@
 pub mod Same
 pub mod Partner
 pub mod ReadableToo
+pub mod Lists
+pub mod Answers
