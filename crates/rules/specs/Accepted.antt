@@ -2,11 +2,10 @@
 -- refusals 8 to 34 applies exactly when this holds.
 use Prim.Native.Nat.{ℕ, _^_, _<_}
 use mathlib.Core.Bool.{Bool, true, false, not}
-use mathlib.Core.Logic.{_≢_}
-use mathlib.Core.Option.{Option, some}
+use mathlib.Core.Option.{some}
 use mathlib.Core.Path.{_≡_}
 use lib.Dec.{eqb}
-use Rattle.rows.specs.Rows.{Rows, any, before, Apart, Once}
+use Rattle.rows.specs.Rows.{any, before, Apart, Once}
 use Rattle.igvm_defs.specs.declared.Arch.{Arch}
 use Rattle.igvm_defs.specs.declared.Fault.{Fault}
 use Rattle.igvm_defs.specs.Refusals.{fault, noFault, refuse, orFault, isFault, isRefusal}

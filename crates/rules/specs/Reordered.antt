@@ -1,8 +1,8 @@
 -- Demand 3 on headers: two files whose rows pair off one to one within each list, and what they then answer alike.
 use Prim.Native.Nat.{ℕ, _<_}
-use mathlib.Core.Bool.{Bool, true, false}
+use mathlib.Core.Bool.{true}
 use mathlib.Core.Logic.{_≢_, _↔_}
-use mathlib.Core.Option.{Option, some}
+use mathlib.Core.Option.{some}
 use mathlib.Core.Path.{_≡_}
 use Rattle.rows.specs.Rows.{Rows, before, countOf}
 use Rattle.rows.specs.Paired.{Paired, Free}

@@ -1,10 +1,9 @@
 -- What holds of the regions of an accepted file, of either kind (18, 19).
 use Prim.Native.Nat.{ℕ, _<_}
-use mathlib.Core.Bool.{Bool, true}
+use mathlib.Core.Bool.{true}
 use mathlib.Core.Logic.{_≢_}
-use mathlib.Core.Option.{Option, some}
+use mathlib.Core.Option.{some}
 use mathlib.Core.Path.{_≡_}
-use Rattle.rows.specs.Rows.{Rows}
 use Rattle.masks.specs.Masks.{matches}
 use Rattle.addresses.specs.Addresses.{contains}
 use Rattle.rules.specs.declared.Region.{Region}
