@@ -1,7 +1,7 @@
--- What the calls answer of two sheets whose headers pair off, from what the rules say of the headers.
+-- What the queries answer of two accepted sheets that have as many regions of a mask, the same page table and the same region.
 -- Assumes nothing.
 use mathlib.Core.Path.{_≡_, refl, ap}
-use mathlib.Core.Bool.{Bool, true, false, cond, _||_}
+use mathlib.Core.Bool.{Bool, true, false, cond}
 use mathlib.Core.List.{List}
 use mathlib.Core.Logic.{_≢_}
 use mathlib.Core.Option.{Option, none, some}
@@ -10,47 +10,24 @@ use native.Mathlib.Omega.{arith}
 use lib.Dec.{eqb, ltb}
 use lib.ListN.{length}
 use borrow.Author.Tests.{lt-ltb, ltb-false, eqb-false}
-use Rattle.rows.proofs.Bools.{or-false-parts, cond-same}
-use Rattle.rows.proofs.BelowLaws.{count-lt}
+use Rattle.rows.proofs.Bools.{cond-same}
 use Rattle.le.specs.Le.{leAt}
 use Rattle.igvm_defs.specs.declared.Refusal.{Refusal}
-use Rattle.igvm_defs.specs.Refusals.{isFault, isRefusal}
-use Rattle.igvm_defs.proofs.RefusalLaws.{no-fault, refuse-fault, row-refusal, else-refusal, orElse-later}
-use Rattle.sheet.specs.Head.{Limits, headOf, pageSizeFault}
-use Rattle.sheet.specs.Read.{Readable, sheetRefusal}
+use Rattle.igvm_defs.specs.Refusals.{noFault, isRefusal, inRow}
+use Rattle.igvm_defs.proofs.RefusalLaws.{row-refusal, orElse-later}
+use Rattle.sheet.specs.Head.{Limits}
 use Rattle.rules.specs.declared.IgvmRelocatableRegion.{IgvmRelocatableRegion}
 use Rattle.rules.specs.declared.PageTableRegion.{PageTableRegion}
-use Rattle.rules.specs.Accepted.{NotRefused}
-use Rattle.rules.specs.Relocations.{isRelocatable, regionCount, regionAt, pageTableAt}
-use Rattle.rules.specs.Verdict.{headersRefusal}
-use Rattle.headers.specs.Headers.{sheetHeaders}
+use Rattle.rules.specs.Relocations.{regionCount, regionAt, pageTableAt}
+use Rattle.rules.proofs.FaultLaws.{refuse-none, else-none}
 use Rattle.words.proofs.LentLaws.{rows-word}
 use Rattle.answers.specs.Verdict.{verdictRefusal}
 use Rattle.answers.specs.Relocations.{sheetInitializations, maskFault, wordsFault, relocationsRefusal, foundOf, relocationsOf, regionWords, wordsAfter, regionFault, checkRefusal, checkOf}
-use Rattle.order.specs.Demand.{Accepted, IsRegion, numberIn}
+use Rattle.order.specs.Demand.{Accepted}
 
--- ---- the verdict
-verdict-is : (l : Limits) (s : List ℕ) → Readable l s
-    → isRefusal (verdictRefusal l s) ≡ (isFault (pageSizeFault (headOf s)) || isRefusal (headersRefusal (sheetHeaders s)))
-unfolding verdictRefusal sheetRefusal
-verdict-is l s ok = rw (else-refusal, else-refusal, row-refusal, ok)
-
-pub accepted-headers : (l : Limits) (s : List ℕ) → Readable l s → Accepted l s → (isFault (pageSizeFault (headOf s)) ≡ false) × NotRefused (sheetHeaders s)
-accepted-headers l s ok v = or-false-parts (isFault (pageSizeFault (headOf s))) (isRefusal (headersRefusal (sheetHeaders s))) (rw (verdict-is l s ok) at v)
-
-pub headers-accepted : (l : Limits) (s : List ℕ) → Readable l s → isFault (pageSizeFault (headOf s)) ≡ false → NotRefused (sheetHeaders s) → Accepted l s
-headers-accepted l s ok e n = rw (verdict-is l s ok, e) n
-
--- ---- a mask's regions
-
--- how many regions the mask has, and its page-table region
-abbrev regionsOf : List ℕ → ℕ → ℕ
+-- how many regions the mask has
+abbrev pub regionsOf : List ℕ → ℕ → ℕ
 regionsOf s given = regionCount (sheetInitializations s) given
-
--- a region's number is below their count
-pub number-lt : (s : List ℕ) (given i : ℕ) → IsRegion s given i → numberIn s given i < regionsOf s given
-unfolding regionCount
-number-lt s given i r = count-lt i (sheetInitializations s .count) (λ j. isRelocatable given (sheetInitializations s .row j)) (r .below) (r .relocatable)
 
 -- ---- the region list
 
@@ -59,11 +36,9 @@ list-says : (l : Limits) (s : List ℕ) (given bytes : ℕ) → isRefusal (reloc
     → (given ≢ 0) × (8 * regionsOf s given ≤ bytes / 8)
 unfolding relocationsRefusal maskFault wordsFault
 list-says l s given bytes f =
-    let g = simp (else-refusal, row-refusal, refuse-fault, no-fault) at f in
-    let (v, h) = or-false-parts (isRefusal (verdictRefusal l s)) _ g in
-    let (m, w) = or-false-parts (eqb given 0 || false) _ h in
-    let (z, _) = or-false-parts (eqb given 0) false m in
-    let (r, _) = or-false-parts (ltb (bytes / 8) (8 * regionsOf s given)) false w in
+    let (m, w) = else-none (inRow 0 (maskFault given)) _ .0 (else-none (verdictRefusal l s) _ .0 f .1) in
+    let z = refuse-none (eqb given 0) 34 0 noFault .0 (rw row-refusal at m) .0 in
+    let r = refuse-none (ltb (bytes / 8) (8 * regionsOf s given)) 36 0 noFault .0 (rw row-refusal at w) .0 in
     (eqb-false given 0 z, ltb-false (bytes / 8) (8 * regionsOf s given) r)
 
 found-count : (count : ℕ) (table : Option PageTableRegion) (r : Refusal) → foundOf count table r .count ≡ count

@@ -3,3 +3,4 @@ pub mod Partner
 pub mod ReadableToo
 pub mod Lists
 pub mod Answers
+pub mod Theorem
