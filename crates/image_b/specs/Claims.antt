@@ -1,7 +1,7 @@
 -- What document 01 claims of image B, as one table: the change of B, the question and the answer. The theorem is in proofs/ImageB.antt.
 use Prim.Native.Nat.{ℕ, zero, suc, _+_, _/_, _%_}
 use mathlib.Core.Path.{_≡_}
-use mathlib.Core.Bool.{Bool, true, false, cond}
+use mathlib.Core.Bool.{cond}
 use mathlib.Core.List.{List, [], _∷_, _++_}
 use lib.ListN.{set, take, drop}
 use Rattle.igvm_defs.specs.declared.Refusal.{Refusal}

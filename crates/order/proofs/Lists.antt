@@ -6,9 +6,8 @@ use Prim.Native.Nat.{ℕ, _+_, _<_, _≤_}
 use native.Mathlib.Omega.{arith}
 use Rattle.rows.specs.Paired.{Paired, Free}
 use Rattle.igvm_defs.specs.Kinds.{platformList, initializationList, directiveList, kindOf}
-use Rattle.igvm_defs.specs.Revision.{archOf}
 use Rattle.igvm_defs.proofs.KindLaws.{Local}
-use Rattle.sheet.specs.Head.{Limits, headOf, rowCount, revisionOf}
+use Rattle.sheet.specs.Head.{Limits, headOf, rowCount}
 use Rattle.sheet.specs.Table.{rowKind, bodyOf, headersOf}
 use Rattle.sheet.specs.Read.{Readable}
 use Rattle.sheet.proofs.Readable.{readable-length, platform-row, initialization-row, directive-row}

@@ -22,6 +22,10 @@ use Rattle.order.proofs.ReadableToo.{heads, readable-too}
 use Rattle.order.proofs.Lists.{paired-in, headers-reordered}
 use Rattle.order.proofs.Answers.{regionsOf, list-same, words-same, check-same}
 
+pub accepted-readable : (l : Limits) (s : List ℕ) → Accepted l s → Readable l s
+unfolding verdictRefusal
+accepted-readable l s v = sheet-says l s .0 (else-none (sheetRefusal l s) _ .0 v .0) .0
+
 -- the headers of an accepted sheet meet none of 8 to 34
 accepted-headers : (l : Limits) (s : List ℕ) → Accepted l s → NotRefused (sheetHeaders s)
 unfolding verdictRefusal
