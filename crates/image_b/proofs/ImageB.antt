@@ -1,0 +1,40 @@
+-- Document 01's claims of image B, by computation.
+-- Assumes nothing.
+use mathlib.Core.Path.{refl}
+use lib.Count.{ones, onesIn}
+use Rattle.rows.specs.Below.{anyBelow, firstBelow, sumBelow, nthBelow}
+use Rattle.le.specs.Le.{leAt}
+use Rattle.igvm_defs.specs.Refusals.{isFault, isRefusal, inRow, orElse, firstFault}
+use Rattle.igvm_defs.specs.Kinds.{spans, kindOf, lengthOk}
+use Rattle.igvm_defs.specs.Platforms.{platformTypes, isPlatformType, platformTypeOf}
+use Rattle.igvm_defs.specs.Vtls.{vtlOf}
+use Rattle.igvm_defs.proofs.Runs.{_⨾_}
+use Rattle.sheet.specs.Head.{limits, headOf, layoutOk, withinLimits, startFault, revisionOf, pageSizeFault}
+use Rattle.sheet.specs.Table.{rowKind, rowLength, offsetOf, bodyOf}
+use Rattle.sheet.specs.Read.{listAt, codesOk, rowFault, endFault, rowsRefusal, readRefusal, sheetRefusal}
+use Rattle.sheet.proofs.Examples.{imageB}
+use Rattle.platform_header.specs.Platforms.{platformOf}
+use Rattle.initialization_header.specs.Initializations.{initializationOf}
+use Rattle.directive_header.specs.Directives.{directiveOf}
+use Rattle.masks.specs.Masks.{shares, matches, isOneBit}
+use Rattle.addresses.specs.Addresses.{isMultiple, contains, meets, endsBeyond, baseValid}
+use Rattle.rules.specs.Regions.{regionPasses, tablesShare, overlap}
+use Rattle.rules.specs.Platforms.{validatePlatform, sameType, platformFault}
+use Rattle.rules.specs.Initializations.{validateRegion, initializationFault}
+use Rattle.rules.specs.Directives.{wrongArch, badArea, directiveFault, noContext}
+use Rattle.rules.specs.Verdict.{noPlatform, noMatchingVpContext, platformsRefusal, initializationsRefusal, directivesRefusal, headersRefusal}
+use Rattle.rules.specs.Relocations.{regionCount, regionAt}
+use Rattle.headers.specs.Headers.{sheetHeaders}
+use Rattle.answers.specs.Verdict.{verdictRefusal}
+use Rattle.answers.specs.Relocations.{maskFault, regionFault, checkRefusal, checkOf}
+use Rattle.image_b.specs.Claims.{claims, AllTrue}
+
+pub image-b : AllTrue claims
+unfolding
+    ones onesIn anyBelow firstBelow sumBelow nthBelow leAt isFault isRefusal inRow orElse firstFault spans kindOf lengthOk platformTypes
+    isPlatformType platformTypeOf vtlOf limits headOf layoutOk withinLimits startFault revisionOf pageSizeFault rowKind rowLength offsetOf bodyOf
+    listAt codesOk rowFault endFault rowsRefusal readRefusal sheetRefusal imageB platformOf initializationOf directiveOf shares matches isOneBit
+    isMultiple contains meets endsBeyond baseValid regionPasses tablesShare overlap validatePlatform sameType platformFault validateRegion
+    initializationFault wrongArch badArea directiveFault noContext noPlatform noMatchingVpContext platformsRefusal initializationsRefusal
+    directivesRefusal headersRefusal regionCount regionAt sheetHeaders verdictRefusal maskFault regionFault checkRefusal checkOf
+image-b = refl ⨾ refl ⨾ refl ⨾ refl ⨾ refl ⨾ refl ⨾ refl ⨾ refl ⨾ refl ⨾ refl ⨾ refl ⨾ refl ⨾ refl ⨾ tt

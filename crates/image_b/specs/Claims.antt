@@ -1,0 +1,106 @@
+-- What document 01 claims of image B, as one table: the change of B, the question and the answer. The theorem is in proofs/ImageB.antt.
+use Prim.Native.Nat.{ℕ, zero, suc, _+_, _/_, _%_}
+use mathlib.Core.Path.{_≡_}
+use mathlib.Core.Bool.{cond}
+use mathlib.Core.List.{List, [], _∷_, _++_}
+use lib.ListN.{set, take, drop}
+use Rattle.igvm_defs.specs.declared.Refusal.{Refusal}
+use Rattle.igvm_defs.specs.Refusals.{isRefusal}
+use Rattle.sheet.specs.Head.{limits}
+use Rattle.sheet.proofs.Examples.{imageB}
+use Rattle.answers.specs.declared.Checked.{Checked}
+use Rattle.answers.specs.Verdict.{verdictRefusal}
+use Rattle.answers.specs.Relocations.{baseCheckOf, containsOf}
+
+-- ---- changes of B
+
+-- the w bytes from `at` on say v
+abbrev pub put : ℕ → ℕ → ℕ → List ℕ → List ℕ
+put zero at v s = s
+put (suc w) at v s = put w (at + 1) (v / 256) (set s at (v % 256))
+
+abbrev pub unchanged : List ℕ → List ℕ
+unchanged s = s
+
+-- fields of the region in row 2, whose body starts at byte 56
+abbrev pub mask : ℕ → List ℕ → List ℕ
+mask v = put 4 56 v
+
+abbrev pub alignment : ℕ → List ℕ → List ℕ
+alignment v = put 8 60 v
+
+abbrev pub gpa : ℕ → List ℕ → List ℕ
+gpa v = put 8 68 v
+
+abbrev pub size : ℕ → List ℕ → List ℕ
+size v = put 8 76 v
+
+abbrev pub vp : ℕ → List ℕ → List ℕ
+vp v = put 2 101 v
+
+abbrev pub part : ℕ → ℕ → List ℕ → List ℕ
+part from to s = drop from (take to s)
+
+-- Row 2 twice, the second time with this gpa: 2 initialization rows; the table's line of row 2 and the body of row 2 (bytes 24 to 32 and 56 to 104) once more.
+abbrev pub secondRegion : ℕ → List ℕ → List ℕ
+secondRegion v s = part 0 10 s ++ 2 ∷ 0 ∷ [] ++ part 12 32 s ++ part 24 104 s ++ part 56 104 (gpa v s) ++ drop 104 s
+
+-- ---- questions and answers
+
+pub data Question : Type 0 where
+  verdict : Question
+  -- may the mask 1's region 0 be moved to this base
+  base : ℕ → Question
+  -- does this address lie in it
+  contains : ℕ → Question
+
+pub data Answer : Type 0 where
+  accepted : Answer
+  -- number, row, detail
+  refused : ℕ → ℕ → ℕ → Answer
+  yes : Answer
+  no : Answer
+
+-- what the definitions of the calls' answers say
+abbrev pub verdictSays : Refusal → Answer
+verdictSays r = cond (isRefusal r) (refused (r .number) (r .row) (r .detail)) accepted
+
+abbrev pub checkSays : Checked → Answer
+checkSays c = cond (isRefusal (c .refusal)) (verdictSays (c .refusal)) (cond (c .holds) yes no)
+
+abbrev pub says : Question → List ℕ → Answer
+says verdict s = verdictSays (verdictRefusal limits s)
+says (base x) s = checkSays (baseCheckOf limits s 1 0 x)
+says (contains x) s = checkSays (containsOf limits s 1 0 x)
+
+-- ---- the table
+
+pub record Claim : Type 0 where
+  pub change : List ℕ → List ℕ
+  pub question : Question
+  pub answer : Answer
+
+abbrev pub claim : (List ℕ → List ℕ) → Question → Answer → Claim
+claim change question answer = record { change = change; question = question; answer = answer }
+
+abbrev pub claims : List Claim
+claims =
+    claim unchanged verdict accepted
+    ∷ claim (alignment 0) verdict (refused 19 2 0)
+    ∷ claim (size 0) verdict (refused 27 2 0)
+    ∷ claim (gpa 0xFFFFFFFFFFFFE000) verdict (refused 28 2 0)
+    ∷ claim (gpa 0xFFFFFFFFFFFFD000) verdict accepted
+    ∷ claim (secondRegion 0x102000) verdict accepted
+    ∷ claim (secondRegion 0x101000) verdict (refused 29 3 0)
+    ∷ claim (mask 3) verdict accepted
+    ∷ claim (vp 1) verdict (refused 34 0 0)
+    ∷ claim unchanged (base 0x1FE000) yes
+    ∷ claim unchanged (base 0x1FF000) no
+    ∷ claim unchanged (contains 0x101FFF) yes
+    ∷ claim unchanged (contains 0x102000) no
+    ∷ []
+
+-- every claim of the table is true
+abbrev pub AllTrue : List Claim → Type 0
+AllTrue [] = Unit
+AllTrue (c ∷ cs) = (says (c .question) (c .change imageB) ≡ c .answer) × AllTrue cs

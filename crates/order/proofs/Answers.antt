@@ -1,0 +1,103 @@
+-- What the queries answer of two accepted sheets that have as many regions of a mask, the same page table and the same region.
+-- Assumes nothing.
+use mathlib.Core.Path.{_≡_, refl, ap}
+use mathlib.Core.Bool.{Bool, true, false, cond}
+use mathlib.Core.List.{List}
+use mathlib.Core.Logic.{_≢_}
+use mathlib.Core.Option.{Option, none, some}
+use Prim.Native.Nat.{ℕ, _+_, _*_, _/_, _<_, _≤_}
+use native.Mathlib.Omega.{arith}
+use lib.Dec.{eqb, ltb}
+use lib.ListN.{length}
+use borrow.Author.Tests.{lt-ltb, ltb-false, eqb-false}
+use Rattle.rows.proofs.Bools.{cond-same}
+use Rattle.le.specs.Le.{leAt}
+use Rattle.igvm_defs.specs.declared.Refusal.{Refusal}
+use Rattle.igvm_defs.specs.Refusals.{noFault, isRefusal, inRow}
+use Rattle.igvm_defs.proofs.RefusalLaws.{row-refusal, orElse-later}
+use Rattle.sheet.specs.Head.{Limits}
+use Rattle.rules.specs.declared.IgvmRelocatableRegion.{IgvmRelocatableRegion}
+use Rattle.rules.specs.declared.PageTableRegion.{PageTableRegion}
+use Rattle.rules.specs.Relocations.{regionCount, regionAt, pageTableAt}
+use Rattle.rules.proofs.FaultLaws.{refuse-none, else-none}
+use Rattle.words.proofs.LentLaws.{rows-word}
+use Rattle.answers.specs.Verdict.{verdictRefusal}
+use Rattle.answers.specs.Relocations.{sheetInitializations, maskFault, wordsFault, relocationsRefusal, foundOf, relocationsOf, regionWords, wordsAfter, regionFault, checkRefusal, checkOf}
+use Rattle.order.specs.Demand.{Accepted}
+
+-- how many regions the mask has
+abbrev pub regionsOf : List ℕ → ℕ → ℕ
+regionsOf s given = regionCount (sheetInitializations s) given
+
+-- ---- the region list
+
+-- what is known where the list is not refused: the mask is not 0, and there is room for the words
+list-says : (l : Limits) (s : List ℕ) (given bytes : ℕ) → isRefusal (relocationsRefusal l s given bytes) ≡ false
+    → (given ≢ 0) × (8 * regionsOf s given ≤ bytes / 8)
+unfolding relocationsRefusal maskFault wordsFault
+list-says l s given bytes f =
+    let (m, w) = else-none (inRow 0 (maskFault given)) _ .0 (else-none (verdictRefusal l s) _ .0 f .1) in
+    let z = refuse-none (eqb given 0) 34 0 noFault .0 (rw row-refusal at m) .0 in
+    let r = refuse-none (ltb (bytes / 8) (8 * regionsOf s given)) 36 0 noFault .0 (rw row-refusal at w) .0 in
+    (eqb-false given 0 z, ltb-false (bytes / 8) (8 * regionsOf s given) r)
+
+found-count : (count : ℕ) (table : Option PageTableRegion) (r : Refusal) → foundOf count table r .count ≡ count
+found-count count none r = refl
+found-count count (some t) r = refl
+
+found-refusal : (refused : Bool) (count : ℕ) (table : Option PageTableRegion) (r : Refusal)
+    → cond refused (foundOf 0 none r) (foundOf count table r) .refusal ≡ r
+found-refusal true count table r = refl
+found-refusal false count none r = refl
+found-refusal false count (some t) r = refl
+
+list-refusal : (l : Limits) (s : List ℕ) (given bytes : ℕ) → relocationsOf l s given bytes .refusal ≡ relocationsRefusal l s given bytes
+unfolding relocationsOf
+list-refusal l s given bytes =
+    let r = relocationsRefusal l s given bytes in
+    found-refusal (isRefusal r) (regionsOf s given) (pageTableAt (sheetInitializations s) given) r
+
+list-count : (l : Limits) (s : List ℕ) (given bytes : ℕ) → isRefusal (relocationsRefusal l s given bytes) ≡ false
+    → relocationsOf l s given bytes .count ≡ regionsOf s given
+unfolding relocationsOf
+list-count l s given bytes f =
+    rw f (found-count (regionsOf s given) (pageTableAt (sheetInitializations s) given) (relocationsRefusal l s given bytes))
+
+module _ (l : Limits) (a b : List ℕ) (va : Accepted l a) (vb : Accepted l b) (given : ℕ) (counts : regionsOf a given ≡ regionsOf b given) where
+  list-refusal-same : (bytes bytes' : ℕ) → bytes / 8 ≡ bytes' / 8 → relocationsRefusal l a given bytes ≡ relocationsRefusal l b given bytes'
+  unfolding relocationsRefusal wordsFault
+  list-refusal-same bytes bytes' e = rw (orElse-later (verdictRefusal l a) _ va, orElse-later (verdictRefusal l b) _ vb, counts, e)
+
+  pub list-same : (given ≢ 0 → pageTableAt (sheetInitializations a) given ≡ pageTableAt (sheetInitializations b) given)
+      → (bytes bytes' : ℕ) → bytes / 8 ≡ bytes' / 8 → relocationsOf l a given bytes ≡ relocationsOf l b given bytes'
+  unfolding relocationsOf
+  list-same tables bytes bytes' e =
+      rw (list-refusal-same bytes bytes' e, counts)
+      (cond-same (isRefusal (relocationsRefusal l b given bytes')) _ _ _ _ (λ _. refl) (λ f. rw (tables (list-says l b given bytes' f .0))))
+
+  -- two regions that are the same, by their numbers n and m
+  pub words-same : (n m : ℕ) → n < regionsOf a given → m < regionsOf b given
+      → regionAt (sheetInitializations a) given n ≡ regionAt (sheetInitializations b) given m
+      → (x y : List ℕ) → length x / 8 ≡ length y / 8 → isRefusal (relocationsOf l a given (length x) .refusal) ≡ false → (k : ℕ) → k < 8
+      → leAt 8 (wordsAfter l a given x) (64 * n + 8 * k) ≡ leAt 8 (wordsAfter l b given y) (64 * m + 8 * k)
+  unfolding wordsAfter
+  words-same n m ln lm e x y h f k lk =
+      let fa = rw (list-refusal l a given (length x)) at f in
+      let fb = rw (list-refusal-same (length x) (length y) h) at fa in
+      let ra = list-says l a given (length x) fa .1 in
+      let rb = list-says l b given (length y) fb .1 in
+      rw (list-count l a given (length x) fa, list-count l b given (length y) fb)
+      (rows-word (regionsOf a given) (regionsOf b given) _ _ x y n m k (omega arith) (omega arith) ln lm lk (ap regionWords e))
+
+  -- ---- checks on one region
+  pub check-same : (p : IgvmRelocatableRegion → Bool) (n m : ℕ) → n < regionsOf a given → m < regionsOf b given
+      → regionAt (sheetInitializations a) given n ≡ regionAt (sheetInitializations b) given m → checkOf p l a given n ≡ checkOf p l b given m
+  unfolding checkOf checkRefusal regionFault
+  check-same p n m ln lm e =
+      rw (
+        orElse-later (verdictRefusal l a) _ va,
+        orElse-later (verdictRefusal l b) _ vb,
+        lt-ltb n (regionsOf a given) ln,
+        lt-ltb m (regionsOf b given) lm,
+        e,
+      )

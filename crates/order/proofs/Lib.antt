@@ -1,0 +1,9 @@
+pub mod Same
+pub mod Partner
+pub mod ReadableToo
+pub mod Lists
+pub mod Answers
+pub mod Theorem
+pub mod Images
+pub mod Swap
+pub mod Needed

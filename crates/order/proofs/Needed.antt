@@ -1,0 +1,128 @@
+-- Demand 3 with a condition left out is false: with directives naming one area free to move, with platforms of one mask free to move, and with
+-- bytes left over. Each by two sheets, the first accepted and the second refused.
+-- Assumes nothing.
+use mathlib.Core.Path.{_≡_, refl}
+use mathlib.Core.Bool.{true≢false}
+use mathlib.Core.List.{List, [], _∷_, _++_}
+use Prim.Native.Nat.{ℕ, _+_}
+use lib.ListN.{length, take}
+use lib.Count.{ones, onesIn}
+use Rattle.rows.specs.Below.{anyBelow, firstBelow, lastBelow, sumBelow}
+use Rattle.rows.specs.Paired.{Free}
+use Rattle.le.specs.Le.{leAt}
+use Rattle.igvm_defs.specs.Refusals.{refusal, isFault, isRefusal, inRow, orElse, firstFault}
+use Rattle.igvm_defs.specs.Kinds.{spans, kindOf, fields, lengthOk}
+use Rattle.igvm_defs.specs.Platforms.{platformTypes, isPlatformType, platformTypeOf}
+use Rattle.igvm_defs.proofs.Runs.{_⨾_}
+use Rattle.sheet.specs.Head.{limits, headOf, rowCount, layoutOk, withinLimits, startFault, revisionOf, pageSizeFault}
+use Rattle.sheet.specs.Table.{rowKind, rowLength, offsetOf, bodyOf}
+use Rattle.sheet.specs.Read.{listAt, codesOk, rowFault, endFault, rowsRefusal, readRefusal, Readable, sheetRefusal}
+use Rattle.platform_header.specs.Platforms.{platformOf}
+use Rattle.initialization_header.specs.Initializations.{initializationOf}
+use Rattle.directive_header.specs.Directives.{directiveOf}
+use Rattle.masks.specs.Masks.{shares, isOneBit, hasBit, bitsBelow, firstMask}
+use Rattle.addresses.specs.Addresses.{isMultiple}
+use Rattle.rules.specs.Regions.{regionPasses}
+use Rattle.rules.specs.Platforms.{validatePlatform, sameType, platformFault, lastIsCca}
+use Rattle.rules.specs.Initializations.{bitWithoutCca, initializationFault}
+use Rattle.rules.specs.Directives.{wrongArch, allocates, inserts, isAllocated, badArea, directiveFault}
+use Rattle.rules.specs.Verdict.{noPlatform, noMatchingVpContext, platformsRefusal, initializationsRefusal, directivesRefusal, headersRefusal}
+use Rattle.headers.specs.Headers.{sheetHeaders}
+use Rattle.answers.specs.Verdict.{verdictRefusal}
+use Rattle.order.specs.Reordered.{PairedRows, OneMask, OneArea, Reordered}
+use Rattle.order.specs.Demand.{Accepted}
+use Rattle.order.proofs.Images.{sheetOf, platform, ccaPolicy, parameterArea, vpCount, alike, unmoved, exchanged}
+use Rattle.order.proofs.Theorem.{accepted-readable, demand-3}
+
+-- ---- the sheets
+
+-- the area before its parameter, and after it
+unfoldable pub areaFirst : List ℕ
+areaFirst = sheetOf (platform 1 6 ∷ []) [] (parameterArea (1 ∷ 2 ∷ 3 ∷ []) ∷ vpCount ∷ [])
+
+unfoldable pub areaLast : List ℕ
+areaLast = sheetOf (platform 1 6 ∷ []) [] (vpCount ∷ parameterArea (1 ∷ 2 ∷ 3 ∷ []) ∷ [])
+
+-- the last platform of mask 1 is CCA, and the first is
+unfoldable pub ccaLast : List ℕ
+ccaLast = sheetOf (platform 1 1 ∷ platform 1 6 ∷ []) (ccaPolicy (1 ∷ 2 ∷ []) ∷ []) []
+
+unfoldable pub ccaFirst : List ℕ
+ccaFirst = sheetOf (platform 1 6 ∷ platform 1 1 ∷ []) (ccaPolicy (1 ∷ 2 ∷ []) ∷ []) []
+
+-- no byte left over, and one
+unfoldable pub plain : List ℕ
+plain = sheetOf (platform 1 6 ∷ []) [] []
+
+unfoldable pub longer : List ℕ
+unfolding plain
+longer = plain ++ 0 ∷ []
+
+verdicts :
+    (Accepted limits areaFirst)
+    × (verdictRefusal limits areaLast ≡ refusal 32 2 0)
+    × (Accepted limits ccaLast)
+    × (verdictRefusal limits ccaFirst ≡ refusal 25 3 1)
+    × (Accepted limits plain)
+    × (verdictRefusal limits longer ≡ refusal 6 0 0)
+unfolding
+    areaFirst areaLast ccaLast ccaFirst plain longer ones onesIn anyBelow firstBelow lastBelow sumBelow leAt isFault isRefusal inRow orElse firstFault
+    spans kindOf lengthOk platformTypes isPlatformType platformTypeOf limits headOf layoutOk withinLimits startFault revisionOf pageSizeFault rowKind
+    rowLength offsetOf bodyOf listAt codesOk rowFault endFault rowsRefusal readRefusal sheetRefusal platformOf initializationOf directiveOf shares
+    isOneBit hasBit bitsBelow firstMask isMultiple regionPasses validatePlatform sameType platformFault lastIsCca bitWithoutCca initializationFault
+    wrongArch allocates inserts isAllocated badArea directiveFault noPlatform noMatchingVpContext platformsRefusal initializationsRefusal
+    directivesRefusal headersRefusal sheetHeaders verdictRefusal
+verdicts = (refl, refl, refl, refl, refl, refl)
+
+-- ---- the statement, by what it asks of b's end and which rows it ties
+abbrev pub Statement : (List ℕ → Type 0) → (List ℕ → ℕ → ℕ → Type 0) → (List ℕ → ℕ → ℕ → Type 0) → Type 0
+Statement End TiedPlatforms TiedDirectives =
+    (a b : List ℕ) → Readable limits a → take 16 b ≡ take 16 a → End b → PairedRows a b (TiedPlatforms a) 0 (headOf a .platforms)
+    → PairedRows a b Free (headOf a .platforms) (headOf a .initializations)
+    → PairedRows a b (TiedDirectives a) (headOf a .platforms + headOf a .initializations) (headOf a .directives)
+    → Accepted limits a → Accepted limits b
+
+-- no byte left over
+abbrev pub Whole : List ℕ → Type 0
+Whole s = offsetOf s (rowCount (headOf s)) ≡ length s
+
+abbrev pub AnyEnd : List ℕ → Type 0
+AnyEnd s = Unit
+
+abbrev pub NoneTied : List ℕ → ℕ → ℕ → Type 0
+NoneTied s = Free
+
+-- with all of its conditions it is a part of demand 3
+pub all-asked : Statement Whole OneMask OneArea
+all-asked a b ok head whole platforms initializations directives =
+    let R : Reordered a b = record { head = head; whole = whole; platforms = platforms; initializations = initializations; directives = directives } in
+    demand-3 limits a b ok R .accepted .0
+
+-- directives naming one area must keep their order: here the area is named before it is allocated
+pub areas-keep : Statement Whole OneMask NoneTied → ⊥
+unfolding areaFirst areaLast isRefusal headOf rowKind rowLength offsetOf bodyOf kindOf spans fields leAt sumBelow
+areas-keep f =
+    let accepted = verdicts .0 in
+    let refused = verdicts .1 in
+    let platforms = unmoved 1 (alike refl refl refl ⨾ tt) in
+    let directives = exchanged 0 (alike refl refl refl ⨾ alike refl refl refl ⨾ tt) (λ i j l m t. absurd t) in
+    true≢false (rw refused at (f areaFirst areaLast (accepted-readable limits areaFirst accepted) refl refl platforms (unmoved 0 tt) directives accepted))
+
+-- platforms of one mask must keep theirs: here CCA is the last no more
+pub platforms-keep : Statement Whole NoneTied OneArea → ⊥
+unfolding ccaLast ccaFirst isRefusal headOf rowKind rowLength offsetOf bodyOf kindOf spans fields leAt sumBelow
+platforms-keep f =
+    let accepted = verdicts .2 in
+    let refused = verdicts .3 in
+    let platforms = exchanged 0 (alike refl refl refl ⨾ alike refl refl refl ⨾ tt) (λ i j l m t. absurd t) in
+    let initializations = unmoved 1 (alike refl refl refl ⨾ tt) in
+    true≢false (rw refused at (f ccaLast ccaFirst (accepted-readable limits ccaLast accepted) refl refl platforms initializations (unmoved 0 tt) accepted))
+
+-- no byte may be left over
+pub nothing-left : Statement AnyEnd OneMask OneArea → ⊥
+unfolding plain longer isRefusal headOf rowKind rowLength offsetOf bodyOf kindOf spans fields leAt sumBelow
+nothing-left f =
+    let accepted = verdicts .4 in
+    let refused = verdicts .5 in
+    let platforms = unmoved 1 (alike refl refl refl ⨾ tt) in
+    true≢false (rw refused at (f plain longer (accepted-readable limits plain accepted) refl tt platforms (unmoved 0 tt) (unmoved 0 tt) accepted))

@@ -1,0 +1,101 @@
+-- A reordering that is not the identity, on bytes: the first two rows of each list are exchanged, and page, initial and opaque bytes are changed.
+-- Assumes nothing.
+use mathlib.Core.Path.{_≡_, refl}
+use mathlib.Core.Bool.{false, false≢true}
+use mathlib.Core.List.{List, [], _∷_}
+use Prim.Native.Nat.{ℕ, zero, suc, _+_, _*_, _/_, _<_}
+use native.Mathlib.Omega.{arith}
+use lib.ListN.{length}
+use lib.Count.{ones, onesIn}
+use Rattle.rows.specs.Below.{anyBelow, firstBelow, lastBelow, sumBelow}
+use Rattle.le.specs.Le.{leAt}
+use Rattle.igvm_defs.specs.Refusals.{isFault, isRefusal, inRow, orElse, firstFault}
+use Rattle.igvm_defs.specs.Kinds.{spans, kindOf, fields, lengthOk}
+use Rattle.igvm_defs.specs.Platforms.{platformTypes, isPlatformType, platformTypeOf}
+use Rattle.igvm_defs.specs.Vtls.{vtlOf}
+use Rattle.igvm_defs.proofs.Runs.{_⨾_}
+use Rattle.sheet.specs.Head.{limits, headOf, layoutOk, withinLimits, startFault, revisionOf, pageSizeFault}
+use Rattle.sheet.specs.Table.{rowKind, rowLength, offsetOf, bodyOf}
+use Rattle.sheet.specs.Read.{listAt, codesOk, rowFault, endFault, rowsRefusal, readRefusal, sheetRefusal}
+use Rattle.platform_header.specs.Platforms.{platformOf}
+use Rattle.initialization_header.specs.Initializations.{initializationOf}
+use Rattle.directive_header.specs.Directives.{directiveOf}
+use Rattle.directive_header.specs.Fields.{areaNamed}
+use Rattle.masks.specs.Masks.{shares, matches, isOneBit, hasBit, bitsBelow, firstMask}
+use Rattle.addresses.specs.Addresses.{isMultiple, meets, endsBeyond}
+use Rattle.rules.specs.Regions.{regionPasses, tablesShare, overlap}
+use Rattle.rules.specs.Platforms.{validatePlatform, sameType, platformFault, lastIsCca}
+use Rattle.rules.specs.Initializations.{validateRegion, validateTable, bitWithoutCca, initializationFault}
+use Rattle.rules.specs.Directives.{wrongArch, allocates, inserts, isAllocated, badArea, directiveFault, noContext}
+use Rattle.rules.specs.Verdict.{noPlatform, noMatchingVpContext, platformsRefusal, initializationsRefusal, directivesRefusal, headersRefusal}
+use Rattle.headers.specs.Headers.{sheetHeaders}
+use Rattle.answers.specs.Verdict.{verdictRefusal}
+use Rattle.answers.specs.Relocations.{relocationsOf, wordsAfter}
+use Rattle.order.specs.Reordered.{OneMask, OneArea, Reordered}
+use Rattle.order.specs.Demand.{Accepted, SameAnswers}
+use Rattle.order.proofs.Images.{sheetOf, platform, ccaPolicy, region, pageTable, pageData, parameterArea, vpCount, aarch64Vbs, swap, alike, exchanged}
+use Rattle.order.proofs.Theorem.{accepted-readable, demand-3}
+
+unfoldable pub sheetA : List ℕ
+sheetA =
+    sheetOf (platform 1 6 ∷ platform 2 1 ∷ [])
+    (region 0x100000 ∷ region 0x102000 ∷ pageTable 0x104000 ∷ ccaPolicy (1 ∷ 2 ∷ []) ∷ [])
+    (aarch64Vbs (170 ∷ 187 ∷ []) ∷ parameterArea (1 ∷ 2 ∷ 3 ∷ []) ∷ vpCount ∷ pageData (4 ∷ 5 ∷ []) ∷ [])
+
+unfoldable pub sheetB : List ℕ
+sheetB =
+    sheetOf (platform 2 1 ∷ platform 1 6 ∷ [])
+    (region 0x102000 ∷ region 0x100000 ∷ pageTable 0x104000 ∷ ccaPolicy (3 ∷ 4 ∷ []) ∷ [])
+    (parameterArea (9 ∷ 8 ∷ 7 ∷ []) ∷ aarch64Vbs (5 ∷ 6 ∷ []) ∷ vpCount ∷ pageData (6 ∷ 7 ∷ []) ∷ [])
+
+pub reordered : Reordered sheetA sheetB
+unfolding sheetA sheetB headOf rowKind rowLength offsetOf bodyOf kindOf spans fields leAt sumBelow areaNamed
+reordered =
+    record {
+      head = refl;
+      whole = refl;
+      platforms = exchanged 0 (alike refl refl refl ⨾ alike refl refl refl ⨾ tt) other-masks;
+      initializations = exchanged 2
+          (alike refl refl refl ⨾ alike refl refl refl ⨾ alike refl refl refl ⨾ alike refl refl refl ⨾ tt) (λ i j l m t. absurd t);
+      directives = exchanged 2
+          (alike refl refl refl ⨾ alike refl refl refl ⨾ alike refl refl refl ⨾ alike refl refl refl ⨾ tt) one-area;
+    }
+  where
+    -- the two platforms have two masks
+    other-masks : (i j : ℕ) → i < j → j < 2 → OneMask sheetA (0 + i) (0 + j) → swap i < swap j
+    other-masks zero zero l m t = absurd (omega arith)
+    other-masks zero (suc zero) l m t = absurd (omega arith)
+    other-masks zero (suc (suc j)) l m t = absurd (omega arith)
+    other-masks (suc i) j l m t = absurd (omega arith)
+
+    -- the context names no area; the area and its parameter keep their order
+    one-area : (i j : ℕ) → i < j → j < 4 → OneArea sheetA (6 + i) (6 + j) → swap i < swap j
+    one-area zero j l m t = let (x, p, q) = t in absurd (false≢true (cc))
+    one-area (suc zero) zero l m t = absurd (omega arith)
+    one-area (suc zero) (suc zero) l m t = absurd (omega arith)
+    one-area (suc zero) (suc (suc j)) l m t = omega arith
+    one-area (suc (suc i)) zero l m t = absurd (omega arith)
+    one-area (suc (suc i)) (suc zero) l m t = absurd (omega arith)
+    one-area (suc (suc i)) (suc (suc j)) l m t = l
+
+pub accepted-A : Accepted limits sheetA
+unfolding
+    sheetA ones onesIn anyBelow firstBelow lastBelow sumBelow leAt isFault isRefusal inRow orElse firstFault spans kindOf lengthOk platformTypes
+    isPlatformType platformTypeOf vtlOf limits headOf layoutOk withinLimits startFault revisionOf pageSizeFault rowKind rowLength offsetOf bodyOf
+    listAt codesOk rowFault endFault rowsRefusal readRefusal sheetRefusal platformOf initializationOf directiveOf shares matches isOneBit hasBit
+    bitsBelow firstMask isMultiple meets endsBeyond regionPasses tablesShare overlap validatePlatform sameType platformFault lastIsCca validateRegion
+    validateTable bitWithoutCca initializationFault wrongArch allocates inserts isAllocated badArea directiveFault noContext noPlatform
+    noMatchingVpContext platformsRefusal initializationsRefusal directivesRefusal headersRefusal sheetHeaders verdictRefusal
+accepted-A = refl
+
+pub swapped : SameAnswers limits sheetA sheetB reordered
+swapped = demand-3 limits sheetA sheetB (accepted-readable limits sheetA accepted-A) reordered
+
+pub accepted-B : Accepted limits sheetB
+accepted-B = swapped .accepted .0 accepted-A
+
+-- the region at 0x100000 is number 0 in the one sheet and number 1 in the other
+pub words-same : (x y : List ℕ) → length x / 8 ≡ length y / 8 → isRefusal (relocationsOf limits sheetA 1 (length x) .refusal) ≡ false → (k : ℕ) → k < 8
+    → leAt 8 (wordsAfter limits sheetA 1 x) (64 * 0 + 8 * k) ≡ leAt 8 (wordsAfter limits sheetB 1 y) (64 * 1 + 8 * k)
+unfolding sheetA sheetB reordered headOf rowKind rowLength offsetOf bodyOf kindOf spans fields leAt sumBelow sheetHeaders initializationOf matches
+words-same = swapped .words accepted-A 1 0 (record { below = omega arith; relocatable = refl })

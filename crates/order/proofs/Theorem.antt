@@ -1,0 +1,80 @@
+-- Demand 3: the theorem.
+-- Assumes nothing.
+use mathlib.Core.Path.{_≡_, sym}
+use mathlib.Core.List.{List}
+use Prim.Native.Nat.{ℕ, _<_}
+use Rattle.sheet.specs.Head.{Limits, headOf}
+use Rattle.sheet.specs.Read.{Readable, sheetRefusal}
+use Rattle.sheet.proofs.Readable.{sheet-says}
+use Rattle.rules.specs.Accepted.{NotRefused}
+use Rattle.rules.specs.Relocations.{regionAt}
+use Rattle.rules.specs.Reordered as rules
+use Rattle.rules.proofs.FaultLaws.{else-none}
+use Rattle.rules.proofs.Order.{same-answers}
+use Rattle.rules.proofs.QueryLaws.{number-below}
+use Rattle.rules.proofs.SoundLaws.{accepted-sound}
+use Rattle.headers.specs.Headers.{sheetHeaders}
+use Rattle.answers.specs.Verdict.{verdictRefusal}
+use Rattle.answers.specs.Relocations.{sheetInitializations}
+use Rattle.order.specs.Reordered.{Reordered}
+use Rattle.order.specs.Demand.{Accepted, IsRegion, numberIn, SameAnswers}
+use Rattle.order.proofs.ReadableToo.{heads, readable-too}
+use Rattle.order.proofs.Lists.{paired-in, headers-reordered}
+use Rattle.order.proofs.Answers.{regionsOf, list-same, words-same, check-same}
+
+pub accepted-readable : (l : Limits) (s : List ℕ) → Accepted l s → Readable l s
+unfolding verdictRefusal
+accepted-readable l s v = sheet-says l s .0 (else-none (sheetRefusal l s) _ .0 v .0) .0
+
+-- the headers of an accepted sheet meet none of 8 to 34
+accepted-headers : (l : Limits) (s : List ℕ) → Accepted l s → NotRefused (sheetHeaders s)
+unfolding verdictRefusal
+accepted-headers l s v = else-none (sheetRefusal l s) _ .0 v .1
+
+-- of readable sheets with one head, whether 8 to 34 apply decides
+accepted-there : (l : Limits) (a b : List ℕ) → Readable l b → headOf b ≡ headOf a → (NotRefused (sheetHeaders a) → NotRefused (sheetHeaders b))
+    → Accepted l a → Accepted l b
+unfolding verdictRefusal
+accepted-there l a b ok e f v =
+    let (p, n) = else-none (sheetRefusal l a) _ .0 v in
+    else-none (sheetRefusal l b) _ .1 (sheet-says l b .1 (ok, rw e (sheet-says l a .0 p .1)), f n)
+
+-- a region's number is one of the mask's
+number-in : (s : List ℕ) (given i : ℕ) → IsRegion s given i → numberIn s given i < regionsOf s given
+number-in s given i r = number-below (sheetInitializations s) given i (r .below) (r .relocatable)
+
+-- DEMAND 3
+pub demand-3 : (l : Limits) (a b : List ℕ) → Readable l a → (R : Reordered a b) → SameAnswers l a b R
+unfolding paired-in headers-reordered
+demand-3 l a b ok R =
+    record {
+      readable = readable-too l ok R;
+      accepted = (there, back);
+      region = region;
+      relocations = λ v given bytes bytes' e.
+          list-same l a b v (there v) given (S .count given) (S .table (accepted-headers l a v) given) bytes bytes' e;
+      words = λ v given i r.
+          words-same l a b v (there v) given (S .count given) _ _ (number-in a given i r) (number-in b given _ (region given i r)) (found given i r);
+      base = λ v given i r base.
+          check-same l a b v (there v) given (S .count given) _ _ _ (number-in a given i r) (number-in b given _ (region given i r)) (found given i r);
+      sound = λ v. (accepted-sound (sheetHeaders a) (accepted-headers l a v), accepted-sound (sheetHeaders b) (accepted-headers l b (there v)));
+    }
+  where
+    H : rules.Reordered (sheetHeaders a) (sheetHeaders b)
+    H = headers-reordered l ok R
+
+    S : rules.SameAnswers (sheetHeaders a) (sheetHeaders b) H
+    S = same-answers (sheetHeaders a) (sheetHeaders b) H
+
+    there : Accepted l a → Accepted l b
+    there = accepted-there l a b (readable-too l ok R) (heads R) (S .accepted .0)
+
+    back : Accepted l b → Accepted l a
+    back = accepted-there l b a ok (sym (heads R)) (S .accepted .1)
+
+    region : (given i : ℕ) → IsRegion a given i → IsRegion b given (R .initializations .to i)
+    region given i r = record { below = H .initializations .to-below i (r .below); relocatable = rw (H .initializations .same i (r .below)) (r .relocatable) }
+
+    found : (given i : ℕ) → IsRegion a given i
+        → regionAt (sheetInitializations a) given (numberIn a given i) ≡ regionAt (sheetInitializations b) given (numberIn b given (R .initializations .to i))
+    found given i r = S .region given i (r .below) (r .relocatable)
