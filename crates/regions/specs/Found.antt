@@ -3,8 +3,8 @@ use mathlib.Core.Bool.{true, false}
 use mathlib.Core.Option.{Option, none, some}
 use Rattle.rules.specs.declared.IgvmRelocatableRegion.{IgvmRelocatableRegion}
 use Rattle.rules.specs.declared.PageTableRegion.{PageTableRegion}
-use Rattle.relocations.specs.declared.FoundRegion.{FoundRegion}
-use Rattle.relocations.specs.declared.FoundTable.{FoundTable}
+use Rattle.regions.specs.declared.FoundRegion.{FoundRegion}
+use Rattle.regions.specs.declared.FoundTable.{FoundTable}
 use Rattle.answers.specs.Relocations.{noPageTable}
 
 abbrev pub noRegion : IgvmRelocatableRegion

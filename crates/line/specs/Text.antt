@@ -3,7 +3,7 @@ use Prim.Native.Nat.{ℕ, _+_, _≤_}
 use mathlib.Core.List.{List, _++_}
 use mathlib.Core.Path.{_≡_}
 use lib.ListN.{length, take}
-use Rattle.admit_line.specs.declared.Line.{Line}
+use Rattle.line.specs.declared.Line.{Line}
 
 abbrev pub textOf : Line → List ℕ
 textOf l = take (l .len) (l .bytes)

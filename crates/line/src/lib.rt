@@ -1,13 +1,11 @@
-// From the bytes of an input to the line that `admit` writes.
+// The line that `admit` writes of a verdict.
 ghost use mathlib.Core.Path.{_≡_};
 ghost use mathlib.Core.List.{List, [], _∷_, _++_};
 ghost use Prim.Native.Nat.{ℕ, _+_, _≤_};
 ghost use lib.ListN.{length, take};
-ghost use Rattle.sheet.specs.Head.{limits};
-ghost use Rattle.admit_line.specs.Line.{digitsIn, decimal, acceptedLine, refusedLine, lineOf, admitOf};
-ghost use Rattle.admit_line.specs.Text.{textOf, Extends};
+ghost use Rattle.line.specs.Line.{digitsIn, decimal, acceptedLine, refusedLine, lineOf};
+ghost use Rattle.line.specs.Text.{textOf, Extends};
 use answers::Verdict;
-use igvm_defs::Refusal;
 
 // The line so far: the first `len` bytes.
 pub struct Line {
@@ -98,23 +96,10 @@ fn refused_line(v: Verdict) -> Line
         .text(b"\n")
 }
 
-// The line of an input; above 65,536 bytes it is 3, before all else.
-pub fn admit_line(s: &[u8]) -> Line
-    ensures { λ r. ⌜ (textOf r ≡ lineOf (admitOf limits (now (s .entry)))) × (r .len ≤ 96) ⌝ }
+// The line of a verdict.
+pub fn line_of(v: Verdict) -> Line
+    ensures { λ r. ⌜ (textOf r ≡ lineOf v) × (r .len ≤ 96) ⌝ }
 {
-    if 65536 < s.len() {
-        return refused_line(Verdict {
-            refusal: Refusal {
-                number: 3,
-                row: 0,
-                detail: 0,
-            },
-            platforms: 0,
-            initializations: 0,
-            directives: 0,
-        });
-    }
-    let v = file::IgvmFile::new(s).verdict;
     if v.refusal.is_refusal() {
         return refused_line(v);
     }

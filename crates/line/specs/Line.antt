@@ -1,13 +1,10 @@
--- The line that `admit` writes of its input: `accepted P I D`, or `refused N row R detail D`, and a newline. Numbers are decimal.
+-- The line that `admit` writes of a verdict: `accepted P I D`, or `refused N row R detail D`, and a newline. Numbers are decimal.
 use Prim.Native.Nat.{ℕ, zero, suc, _+_, _/_, _%_}
 use mathlib.Core.Bool.{cond}
 use mathlib.Core.List.{List, [], _∷_, _++_}
 use lib.Dec.{ltb}
-use lib.ListN.{length}
-use Rattle.igvm_defs.specs.Refusals.{refusal, isRefusal}
-use Rattle.sheet.specs.Head.{Limits}
+use Rattle.igvm_defs.specs.Refusals.{isRefusal}
 use Rattle.answers.specs.declared.Verdict.{Verdict}
-use Rattle.answers.specs.Verdict.{verdictOf}
 
 -- the last k digits of a number at most, the most significant first, with no zero in front
 unfoldable pub digitsIn : ℕ → ℕ → List ℕ
@@ -51,10 +48,3 @@ refusedLine v =
 
 unfoldable pub lineOf : Verdict → List ℕ
 lineOf v = cond (isRefusal (v .refusal)) (refusedLine v) (acceptedLine v)
-
--- the verdict on an input: above 65,536 bytes it is 3, before all else
-unfoldable pub admitOf : Limits → List ℕ → Verdict
-admitOf l s =
-    cond (ltb 65536 (length s))
-    (record { refusal = refusal 3 0 0; platforms = 0; initializations = 0; directives = 0 })
-    (verdictOf l s)
