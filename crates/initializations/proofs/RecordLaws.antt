@@ -1,9 +1,9 @@
 -- The record of regions answers for the rows that it holds.
 -- Assumes nothing.
 use mathlib.Core.Path.{_≡_, refl, ap, ap₂, _∙_}
-use mathlib.Core.Bool.{Bool, true, false, _&&_, _||_, or-false, and-comm}
-use mathlib.Core.Option.{Option, none, some}
-use Prim.Native.Nat.{ℕ, _+_, _≤_, _<_}
+use mathlib.Core.Bool.{Bool, false, _||_, or-false, and-comm}
+use mathlib.Core.Option.{none, some}
+use Prim.Native.Nat.{ℕ, _+_, _<_}
 use native.Mathlib.Omega.{arith}
 use lib.Dec.{ltb}
 use lib.ListN.{length, getD, set}
@@ -11,14 +11,13 @@ use lib.Seq.{getD-set-same, getD-set-other}
 use Rattle.rows.specs.Below.{anyBelow}
 use Rattle.rows.specs.Rows.{Rows, any, before}
 use Rattle.rows.proofs.BelowLaws.{any-more, any-same-tests}
-use Rattle.masks.specs.Masks.{shares}
 use Rattle.masks.proofs.MaskLaws.{shares-sym}
 use Rattle.addresses.specs.Addresses.{meets}
 use Rattle.initialization_header.specs.declared.IgvmInitializationHeader.{IgvmInitializationHeader}
 use Rattle.initializations.specs.declared.Region.{Region}
 use Rattle.initializations.specs.declared.RelocRegions.{RelocRegions}
-use Rattle.initializations.specs.Regions.{regionOf, testRegion, regionPasses, tablesShare, overlap}
-use Rattle.initializations.specs.Record.{entry, anyRegion, Pushed, HoldsRegions}
+use Rattle.initializations.specs.Regions.{regionOf, regionPasses, tablesShare, overlap}
+use Rattle.initializations.specs.Record.{entry, Pushed, HoldsRegions}
 
 -- ---- pairs of regions
 
