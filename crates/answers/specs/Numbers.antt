@@ -18,9 +18,9 @@ verdictNumbers v =
     v .refusal .number
     ∷ v .refusal .row
     ∷ v .refusal .detail
-    ∷ v .file .«platform_headers»
-    ∷ v .file .«initialization_headers»
-    ∷ v .file .«directive_headers»
+    ∷ v .platforms
+    ∷ v .initializations
+    ∷ v .directives
     ∷ []
 
 -- 0 number, 1 row, 2 detail, 3 count, 4 page table (1 or 0), 5 gpa, 6 size, 7 used size, 8 VP index, 9 VTL

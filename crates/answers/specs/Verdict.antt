@@ -8,25 +8,22 @@ use Rattle.sheet.specs.Head.{Limits, headOf}
 use Rattle.sheet.specs.Read.{sheetRefusal}
 use Rattle.headers.specs.Headers.{sheetHeaders}
 use Rattle.rules.specs.Verdict.{headersRefusal}
-use Rattle.sheet.specs.declared.SheetHead.{SheetHead}
-use Rattle.answers.specs.declared.IgvmFile.{IgvmFile}
 use Rattle.answers.specs.declared.Verdict.{Verdict}
 
 -- 1 to 34
 unfoldable pub verdictRefusal : Limits → List ℕ → Refusal
 verdictRefusal l s = orElse (sheetRefusal l s) (headersRefusal (sheetHeaders s))
 
--- the row counts of the three lists
-abbrev pub fileOf : SheetHead → IgvmFile
-fileOf h = record { «platform_headers» = h .platforms; «initialization_headers» = h .initializations; «directive_headers» = h .directives }
+-- a row count, and 0 in a refusal
+abbrev pub countUnless : Refusal → ℕ → ℕ
+countUnless r n = cond (isRefusal r) 0 n
 
-abbrev pub noFile : IgvmFile
-noFile = record { «platform_headers» = 0; «initialization_headers» = 0; «directive_headers» = 0 }
-
--- the answer: the refusal, and the row counts of an accepted file; a refused one has 0 in each
+-- the answer: the refusal, and the row counts of an accepted file
 unfoldable pub verdictOf : Limits → List ℕ → Verdict
 verdictOf l s =
     record {
       refusal = verdictRefusal l s;
-      file = cond (isRefusal (verdictRefusal l s)) noFile (fileOf (headOf s));
+      platforms = countUnless (verdictRefusal l s) (headOf s .platforms);
+      initializations = countUnless (verdictRefusal l s) (headOf s .initializations);
+      directives = countUnless (verdictRefusal l s) (headOf s .directives);
     }

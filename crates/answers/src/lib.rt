@@ -3,16 +3,12 @@
 use igvm_defs::Refusal;
 use rules::PageTableRegion;
 
-// How many headers each list of an accepted file has; all 0 where the file is refused.
-pub struct IgvmFile {
-    pub platform_headers: u64,
-    pub initialization_headers: u64,
-    pub directive_headers: u64,
-}
-
+// The refusal, and how many headers each list of an accepted file has; these are 0 where the file is refused.
 pub struct Verdict {
     pub refusal: Refusal,
-    pub file: IgvmFile,
+    pub platforms: u64,
+    pub initializations: u64,
+    pub directives: u64,
 }
 
 // How many regions the mask has, whether it has a page-table region, and that region's numbers; 0 or no in all of these where the call is refused.

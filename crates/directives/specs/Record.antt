@@ -6,7 +6,9 @@ use mathlib.Core.Bool.{Bool, not, _&&_}
 use mathlib.Core.Option.{Option, none, some}
 use lib.Dec.{eqb}
 use lib.ListN.{getD}
+use Rattle.rows.specs.Below.{firstBelow}
 use Rattle.rows.specs.Rows.{Rows, any, before}
+use Rattle.areas.specs.Areas.{firstOr}
 use Rattle.igvm_defs.specs.declared.Arch.{Arch}
 use Rattle.igvm_defs.specs.declared.Fault.{Fault}
 use Rattle.initialization_header.specs.declared.IgvmInitializationHeader.{IgvmInitializationHeader}
@@ -14,7 +16,7 @@ use Rattle.directive_header.specs.declared.IgvmDirectiveHeader.{IgvmDirectiveHe
 use Rattle.directive_header.specs.declared.IgvmDirectiveHeader.the-variants.{PageData, ParameterArea, VpCount, EnvironmentInfo, Srat, Madt, Slit, Pptt, MmioRanges, MemoryMap, CommandLine, DeviceTree, RequiredMemory, SnpVpContext, X64NativeVpContext, X64VbsVpContext, AArch64VbsVpContext, AArch64CcaVpContext, ParameterInsert, ErrorRange, SnpIdBlock, VbsMeasurement}
 use Rattle.masks.specs.Masks.{shares}
 use Rattle.rules.specs.declared.Region.{Region}
-use Rattle.rules.specs.Directives.{directiveFault, isContext}
+use Rattle.rules.specs.Directives.{badArea, directiveFault, isContext}
 
 -- the mask of a VTL shares a bit with a mask exactly where a context of that VTL does
 abbrev pub HoldsContexts : List ℕ → Rows IgvmDirectiveHeader → Type 0
@@ -59,3 +61,7 @@ howOf (VbsMeasurement mask opaque) = 3
 abbrev pub areaNumber : Option ℕ → ℕ
 areaNumber none = 0
 areaNumber (some area) = area
+
+-- the first row whose area is bad by the rows before it, or the number of rows
+unfoldable pub firstBadArea : Rows IgvmDirectiveHeader → ℕ
+firstBadArea xs = firstOr (xs .count) (firstBelow (xs .count) (λ i. badArea (before i xs) (xs .row i)))

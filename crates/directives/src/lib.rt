@@ -1,15 +1,15 @@
 // Directive headers: refusals 21, 22, 24 and 30 to 33 header by header, and the contexts' masks.
 ghost use mathlib.Core.Path.{_≡_};
-ghost use mathlib.Core.Bool.{not};
-ghost use lib.Bits.{bitOr};
-ghost use lib.Dec.{ltb};
-ghost use lib.ListN.{getD, set};
+ghost use mathlib.Core.Bool.{not, _&&_, _||_};
+ghost use lib.Dec.{eqb, ltb};
+ghost use lib.ListN.{getD};
 ghost use Prim.Native.Nat.{ℕ, _+_, _<_, _≤_};
 ghost use Rattle.rows.specs.Rows.{Rows, before};
 ghost use Rattle.initialization_header.specs.declared.IgvmInitializationHeader.{IgvmInitializationHeader};
 ghost use Rattle.directive_header.specs.declared.IgvmDirectiveHeader.{IgvmDirectiveHeader};
 ghost use Rattle.igvm_defs.specs.Refusals.{fault, noFault, refuse};
 ghost use Rattle.igvm_defs.specs.Vtls.{vtlNumber};
+ghost use Rattle.masks.specs.Masks.{shares};
 ghost use Rattle.addresses.specs.Addresses.{onPage};
 ghost use Rattle.directive_header.specs.Fields.{kindNumber, areaOf};
 ghost use Rattle.rules.specs.Directives.{validateDirective, wrongArch, badArea, insideTable};
@@ -133,8 +133,9 @@ fn arch_fault(arch: Arch, h: IgvmDirectiveHeader, later: Fault) -> Fault
 
 // ---- contexts: a mask for each VTL, of the VBS contexts read so far
 
+// The masks with a context of this VTL and mask.
 fn with_context(contexts: [u32; 3], vtl: Vtl, mask: u32) -> [u32; 3]
-    ensures { λ r. ⌜ r ≡ set contexts (vtlNumber vtl) (bitOr (getD contexts (vtlNumber vtl) 0) mask) ⌝ }
+    ensures { λ r. ⌜ ((level bits : ℕ) → shares (getD r level 0) bits ≡ (shares (getD contexts level 0) bits || (eqb (vtlNumber vtl) level && shares mask bits))) ⌝ }
 {
     let v = vtl.code() as usize;
     let mut next = contexts;

@@ -15,10 +15,9 @@ ghost use Rattle.rules.specs.Directives.{insideTable};
 ghost use Rattle.initializations.specs.Record.{anyRegion, HoldsRegions};
 ghost use Rattle.directives.specs.Record.{howOf, areaNumber, lacksContext};
 ghost use Rattle.rules.specs.Verdict.{directivesRefusal};
-ghost use Rattle.answers.specs.Verdict.{verdictOf, noFile};
+ghost use Rattle.answers.specs.Verdict.{verdictOf};
 ghost use Rattle.directives.specs.Record.{firstBadArea};
 ghost use Rattle.file.specs.Passes.{PlatformsPassed, InitializationsPassed};
-use answers::IgvmFile;
 use answers::Verdict;
 use directive_header::IgvmDirectiveHeader;
 use igvm_defs::Fault;
@@ -200,49 +199,53 @@ fn validate_directive_headers(s: &[u8], head: SheetHead, regions: RelocRegions) 
 
 // ---- the verdict
 
-const NO_FILE: IgvmFile = IgvmFile {
-    platform_headers: 0,
-    initialization_headers: 0,
-    directive_headers: 0,
-};
-
-fn refused(refusal: Refusal) -> Verdict
-    ensures { λ r. ⌜ r ≡ record { refusal = refusal; file = noFile } ⌝ }
+fn refused(refusal: Refusal) -> IgvmFile
+    ensures { λ r. ⌜ r .verdict ≡ record { refusal = refusal; platforms = 0; initializations = 0; directives = 0 } ⌝ }
 {
-    Verdict {
-        refusal,
-        file: NO_FILE,
+    IgvmFile {
+        verdict: Verdict {
+            refusal,
+            platforms: 0,
+            initializations: 0,
+            directives: 0,
+        },
     }
 }
 
+// A file that was offered: accepted, or the first refusal of 1 to 34.
+pub struct IgvmFile {
+    pub verdict: Verdict,
+}
+
 impl IgvmFile {
-    // Accepted, or the first refusal of 1 to 34.
-    pub fn new(s: &[u8]) -> Verdict
-        ensures { λ r. ⌜ r ≡ verdictOf limits (now (s .entry)) ⌝ }
+    pub fn new(s: &[u8]) -> IgvmFile
+        ensures { λ r. ⌜ r .verdict ≡ verdictOf limits (now (s .entry)) ⌝ }
     {
         let read = sheet::read(s);
         if read.is_refusal() {
             return refused(read);
         }
         let head = SheetHead::new(s);
-        let platforms = validate_platform_headers(s, head);
-        if platforms.refusal.is_refusal() {
-            return refused(platforms.refusal);
+        let first = validate_platform_headers(s, head);
+        let platforms = first.refusal;
+        if platforms.is_refusal() {
+            return refused(platforms);
         }
-        let initializations = validate_initialization_headers(s, head, platforms.platforms);
-        if initializations.refusal.is_refusal() {
-            return refused(initializations.refusal);
+        let second = validate_initialization_headers(s, head, first.platforms);
+        let initializations = second.refusal;
+        if initializations.is_refusal() {
+            return refused(initializations);
         }
-        let directives = validate_directive_headers(s, head, initializations.regions);
+        let directives = validate_directive_headers(s, head, second.regions);
         if directives.is_refusal() {
             return refused(directives);
         }
-        Verdict {
-            refusal: Refusal::NONE,
-            file: IgvmFile {
-                platform_headers: head.platforms as u64,
-                initialization_headers: head.initializations as u64,
-                directive_headers: head.directives as u64,
+        IgvmFile {
+            verdict: Verdict {
+                refusal: Refusal::NONE,
+                platforms: head.platforms as u64,
+                initializations: head.initializations as u64,
+                directives: head.directives as u64,
             },
         }
     }

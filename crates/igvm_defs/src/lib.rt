@@ -92,17 +92,17 @@ impl Refusal {
 // What the table says of a kind: its list (1 platform, 2 initialization, 3 directive; 0 for a kind of no list), the least length
 // of its body, and whether that length is exact.
 pub struct Kind {
-    pub list: usize,
-    pub least: usize,
+    pub list: u8,
+    pub least: u8,
     pub exact: bool,
 }
 
 impl Kind {
-    pub const PLATFORM: usize = 1;
+    pub const PLATFORM: u8 = 1;
 
-    pub const INITIALIZATION: usize = 2;
+    pub const INITIALIZATION: u8 = 2;
 
-    pub const DIRECTIVE: usize = 3;
+    pub const DIRECTIVE: u8 = 3;
 }
 
 // A kind of no list.
@@ -261,7 +261,7 @@ impl Kind {
     pub fn length_ok(self, n: usize) -> bool
         ensures { λ r. ⌜ r ≡ lengthOk self n ⌝ }
     {
-        let least = self.least;
+        let least = self.least as usize;
         if self.exact {
             return n == least;
         }

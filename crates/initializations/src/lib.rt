@@ -9,13 +9,35 @@ ghost use Rattle.igvm_defs.specs.Refusals.{noFault};
 ghost use Rattle.masks.specs.Masks.{individualMasks, firstMask};
 ghost use Rattle.platforms.specs.Record.{HoldsPlatforms, lastTypeIsCca};
 ghost use Rattle.rules.specs.Regions.{tablesShare, overlap, tableHolds};
-ghost use Rattle.rules.specs.Initializations.{validateRegion, validateTable, validateInitialization, refuseBit};
+ghost use Rattle.rules.specs.Initializations.{validateAddresses, validateRegion, validateTable, validateInitialization, refuseBit};
 ghost use Rattle.initializations.specs.Record.{entry, anyRegion, Pushed, regionFault, HoldsRegions, InitializationStepped};
 use igvm_defs::Arch;
 use igvm_defs::Fault;
 use initialization_header::IgvmInitializationHeader;
 use platforms::Platforms;
 use rules::Region;
+
+// 20, with the first of gpa, minimum and maximum that is not a multiple of the alignment.
+fn validate_addresses(alignment: u64, gpa: u64, minimum: u64, maximum: u64) -> Fault
+    ensures { λ r. ⌜ r ≡ validateAddresses alignment gpa minimum maximum ⌝ }
+{
+    igvm_defs::refuse(
+        !addresses::is_multiple(gpa, alignment),
+        20,
+        gpa,
+        igvm_defs::refuse(
+            !addresses::is_multiple(minimum, alignment),
+            20,
+            minimum,
+            igvm_defs::refuse(
+                !addresses::is_multiple(maximum, alignment),
+                20,
+                maximum,
+                Fault::NONE,
+            ),
+        ),
+    )
+}
 
 // 17, 18, 19 and 20: a relocatable region alone.
 fn validate_region(alignment: u64, gpa: u64, size: u64, minimum: u64, maximum: u64) -> Fault
@@ -33,22 +55,7 @@ fn validate_region(alignment: u64, gpa: u64, size: u64, minimum: u64, maximum: u
                 alignment == 0,
                 19,
                 0,
-                igvm_defs::refuse(
-                    !addresses::is_multiple(gpa, alignment),
-                    20,
-                    gpa,
-                    igvm_defs::refuse(
-                        !addresses::is_multiple(minimum, alignment),
-                        20,
-                        minimum,
-                        igvm_defs::refuse(
-                            !addresses::is_multiple(maximum, alignment),
-                            20,
-                            maximum,
-                            Fault::NONE,
-                        ),
-                    ),
-                ),
+                validate_addresses(alignment, gpa, minimum, maximum),
             ),
         ),
     )
@@ -150,6 +157,32 @@ fn table_holds(mask: u32, gpa: u64, r: Region) -> bool
     r.page_table & masks::shares(r.mask, mask) & addresses::contains(r.gpa, r.size, gpa)
 }
 
+// 26, 27, 28 and 29: a region whose header alone has the fault `own`, by what the regions before it tell.
+fn region_fault(own: Fault, shares: bool, overlaps: bool, r: Region) -> Fault
+    ensures { λ f. ⌜ f ≡ regionFault own shares overlaps r ⌝ }
+{
+    let beyond = addresses::ends_beyond(r.gpa, r.size);
+    igvm_defs::or_fault(
+        own,
+        igvm_defs::refuse(
+            shares,
+            26,
+            0,
+            igvm_defs::refuse(
+                r.size == 0,
+                27,
+                0,
+                igvm_defs::refuse(
+                    beyond,
+                    28,
+                    0,
+                    igvm_defs::refuse(overlaps, 29, 0, Fault::NONE),
+                ),
+            ),
+        ),
+    )
+}
+
 impl RelocRegions {
     pub fn new() -> RelocRegions
         ensures { λ r. ⌜ r .count ≡ 0 ⌝ }
@@ -245,25 +278,7 @@ impl RelocRegions {
         requires { ⌜ self .count < 64 ⌝ }
         ensures { λ s. ⌜ (s .fault ≡ regionFault own (anyRegion (tablesShare r) self) (anyRegion (overlap r) self) r) × Pushed self r (s .regions) ⌝ }
     {
-        let fault = igvm_defs::or_fault(
-            own,
-            igvm_defs::refuse(
-                self.any_tables_share(r),
-                26,
-                0,
-                igvm_defs::refuse(
-                    r.size == 0,
-                    27,
-                    0,
-                    igvm_defs::refuse(
-                        addresses::ends_beyond(r.gpa, r.size),
-                        28,
-                        0,
-                        igvm_defs::refuse(self.any_overlap(r), 29, 0, Fault::NONE),
-                    ),
-                ),
-            ),
-        );
+        let fault = region_fault(own, self.any_tables_share(r), self.any_overlap(r), r);
         let regions = self.push(r);
         InitializationStep { regions, fault }
     }

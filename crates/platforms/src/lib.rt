@@ -56,14 +56,17 @@ fn stands_with(arch: Arch, t: PlatformType) -> bool
     }
 }
 
-// Whether the last row with a mask is CCA, after one row more.
-fn cca_after(cca: bool, same: bool, kind: u8) -> bool
-    ensures { λ r. ⌜ r ≡ cond same (eqb kind 6) cca ⌝ }
+// Stands for the type where no row was found; the table has no such type.
+const NO_TYPE: u8 = 255;
+
+// The type of the last row found, after one row more.
+fn type_after(found: u8, same: bool, kind: u8) -> u8
+    ensures { λ r. ⌜ r ≡ cond same kind found ⌝ }
 {
     if same {
-        return kind == 6;
+        return kind;
     }
-    cca
+    found
 }
 
 // The masks and the types of the platform rows read so far.
@@ -123,12 +126,12 @@ impl Platforms {
     {
         let n = self.count;
         let mut i = 0;
-        let mut cca = false;
+        let mut found = NO_TYPE;
         while i < n {
-            cca = cca_after(cca, self.mask[i] == mask, self.types[i]);
+            found = type_after(found, self.mask[i] == mask, self.types[i]);
             i += 1;
         }
-        cca
+        found == 6
     }
 
     // One row more: its fault, and the record with it.

@@ -6,3 +6,4 @@ pub mod Within
 pub mod QueryLaws
 pub mod Order
 pub mod SoundLaws
+pub mod OrderExamples

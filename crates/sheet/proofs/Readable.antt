@@ -20,6 +20,7 @@ use Rattle.igvm_defs.specs.Kinds.{platformList, initializationList, directiveLi
 use Rattle.igvm_defs.specs.Revision.{pageSizeOf}
 use Rattle.igvm_defs.proofs.RefusalLaws.{no-fault, refuse-fault, row-refusal, else-refusal, faults-any}
 use Rattle.igvm_defs.proofs.LengthLaws.{length-least}
+use Rattle.sheet.specs.declared.Cursor.{Cursor}
 use Rattle.sheet.specs.declared.SheetHead.{SheetHead}
 use Rattle.sheet.specs.Head.{Limits, limits, headOf, rowCount, bodiesAt, layoutOk, withinLimits, startFault, revisionOf, pageSizeFault}
 use Rattle.sheet.specs.Table.{rowKind, rowLength, offsetOf, bodyOf}
@@ -163,6 +164,10 @@ body-length s k r = simp (length-take, length-drop) (omega arith)
 pub body-byte : (s : List ℕ) (k j : ℕ) → j < rowLength s k → byteAt (bodyOf s k) j ≡ byteAt s (offsetOf s k + j)
 unfolding bodyOf
 body-byte s k j h = rw (getD-take, getD-drop)
+
+-- the body that a cursor stands at is as long as its kind asks
+pub body-least : (s : List ℕ) (c : Cursor) → AtRow s c → kindOf (rowKind s (c .row)) .least ≤ length (bodyOf s (c .row))
+body-least s c a = rw (body-length s (c .row) (rw (← a .offset) (a .room))) (a .least)
 
 -- ---- the sheet
 -- the start passes, each row passes, and the bodies end where the sheet does

@@ -200,7 +200,7 @@ impl Cursor {
 }
 
 // The list that row k stands in.
-fn list_at(h: SheetHead, k: usize) -> usize
+fn list_at(h: SheetHead, k: usize) -> u8
     ensures { λ r. ⌜ r ≡ listAt h k ⌝ }
 {
     let p = h.platforms as usize;

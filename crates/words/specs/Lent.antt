@@ -2,7 +2,7 @@
 use Prim.Native.Nat.{ℕ, suc, _*_, _/_, _%_}
 use mathlib.Core.Bool.{cond}
 use mathlib.Core.List.{List, [], _∷_}
-use lib.Dec.{ltb}
+use lib.Dec.{eqb, ltb}
 use lib.ListN.{getD}
 use Rattle.le.specs.Le.{byteOf}
 
@@ -13,6 +13,10 @@ eachFrom i f (x ∷ b) = f i x ∷ eachFrom (suc i) f b
 
 abbrev pub each : (ℕ → ℕ → ℕ) → List ℕ → List ℕ
 each f b = eachFrom 0 f b
+
+-- the lent bytes with eight words as row n: bytes 64 n to 64 n + 63
+unfoldable pub rowPut : ℕ → List ℕ → List ℕ → List ℕ
+rowPut n words b = each (λ j x. cond (eqb (j / 64) n) (byteOf (j % 8) (getD words (j / 8 % 8) 0)) x) b
 
 -- the lent bytes with rows of eight words in front: word k of row n is item k of `row n`, for the `count` rows from 0 on. Bytes behind them keep their contents
 unfoldable pub rowsPut : ℕ → (ℕ → List ℕ) → List ℕ → List ℕ

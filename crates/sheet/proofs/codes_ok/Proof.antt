@@ -1,7 +1,7 @@
-use borrow.Author.Tests.{ne-eqb}
 use mathlib.Core.Path.{ap}
 use Prim.Native.Nat.{ℕ}
 use native.Mathlib.Omega.{arith}
+use borrow.Author.Tests.{ne-eqb}
 use Rattle.igvm_defs.specs.Kinds.{kindOf, spans}
 use Rattle.sheet.specs.Read.{codesOk}
 use Rattle.sheet.proofs.codes_ok.Statement.{statement}

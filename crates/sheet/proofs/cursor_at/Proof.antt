@@ -1,11 +1,11 @@
 use mathlib.Core.Path.{_≡_}
 use Prim.Native.Nat.{_≤_, _-_}
-use denote.Ref.{now}
 use native.Mathlib.Omega.{arith}
 use borrow.Author.Needs.{needs}
-use Rattle.sheet.proofs.Readable.{offset-first, readable-bounds, at-row}
+use denote.Ref.{now}
 use Rattle.sheet.specs.Head.{limits}
 use Rattle.sheet.specs.Walk.{cursorAt}
+use Rattle.sheet.proofs.Readable.{offset-first, readable-bounds, at-row}
 use Rattle.sheet.proofs.cursor_at.Statement.{statement}
 use Rattle.sheet.proofs.cursor_at.Tie as tie
 

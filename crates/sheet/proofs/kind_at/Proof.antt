@@ -1,5 +1,5 @@
-use Rattle.sheet.specs.Table.{rowKind}
 use borrow.Author.Needs.{needs}
+use Rattle.sheet.specs.Table.{rowKind}
 use Rattle.sheet.proofs.kind_at.Statement.{statement}
 use Rattle.sheet.proofs.kind_at.Tie as tie
 

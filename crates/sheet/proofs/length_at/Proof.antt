@@ -1,5 +1,5 @@
-use Rattle.sheet.specs.Table.{rowLength}
 use borrow.Author.Needs.{needs}
+use Rattle.sheet.specs.Table.{rowLength}
 use Rattle.sheet.proofs.length_at.Statement.{statement}
 use Rattle.sheet.proofs.length_at.Tie as tie
 

@@ -1,6 +1,6 @@
+use borrow.Author.Needs.{needs}
 use borrow.Author.Tests.{lt-ltb, le-ltb}
 use Rattle.sheet.specs.Read.{listAt}
-use borrow.Author.Needs.{needs}
 use Rattle.sheet.proofs.list_at.Statement.{statement}
 use Rattle.sheet.proofs.list_at.Tie as tie
 

@@ -1,11 +1,11 @@
-use Rattle.igvm_defs.specs.Refusals.{isFault}
-use mathlib.Core.Bool.{false}
 use mathlib.Core.Path.{_≡_}
+use mathlib.Core.Bool.{false}
+use borrow.Author.Needs.{needs}
 use denote.Ref.{now}
+use Rattle.igvm_defs.specs.Refusals.{isFault}
+use Rattle.sheet.specs.Head.{limits, startFault}
 use Rattle.sheet.proofs.ReadLaws.{start-stop, sheet-stop, sheet-end}
 use Rattle.sheet.proofs.Readable.{start-says}
-use Rattle.sheet.specs.Head.{limits, startFault}
-use borrow.Author.Needs.{needs}
 use Rattle.sheet.proofs.read.Statement.{statement}
 use Rattle.sheet.proofs.read.Tie as tie
 

@@ -1,16 +1,16 @@
-use Rattle.igvm_defs.specs.Refusals.{isFault}
-use mathlib.Core.Bool.{true, false}
 use mathlib.Core.Path.{_≡_}
+use mathlib.Core.Bool.{true, false}
 use Prim.Native.Nat.{_≤_, _-_, _<_}
-use lib.ListN.{length}
-use denote.Ref.{now}
 use native.Mathlib.Omega.{arith}
+use lib.ListN.{length}
 use borrow.Author.Needs.{needs}
+use denote.Ref.{now}
+use Rattle.igvm_defs.specs.Refusals.{isFault}
+use Rattle.sheet.specs.Head.{headOf, rowCount}
+use Rattle.sheet.specs.Read.{rowFault, endFault}
+use Rattle.sheet.specs.Table.{offsetOf}
 use Rattle.sheet.proofs.ReadLaws.{Passed, passed-none, passed-more, rows-stop, rows-end}
 use Rattle.sheet.proofs.Readable.{offset-first, offset-next, row-says}
-use Rattle.sheet.specs.Read.{rowFault, endFault}
-use Rattle.sheet.specs.Head.{headOf, rowCount}
-use Rattle.sheet.specs.Table.{offsetOf}
 use Rattle.sheet.proofs.read_rows.Statement.{statement}
 use Rattle.sheet.proofs.read_rows.Tie as tie
 

@@ -1,14 +1,35 @@
-use Rattle.igvm_defs.proofs.LengthLaws.{length-least}
+use mathlib.Core.Path.{_≡_, sym, _∙_}
+use mathlib.Core.Bool.{true}
 use Prim.Native.Nat.{_+_}
-use lib.ListN.{length, length-take, length-drop}
 use native.Mathlib.Omega.{arith}
-use denote.Ref.{now}
-use borrow.Author.Tests.{eq-eqb, ne-eqb, lt-ltb, le-ltb, not-true, not-false}
-use Rattle.sheet.specs.Table.{rowLength, offsetOf, bodyOf}
-use Rattle.sheet.specs.Read.{rowFault}
+use lib.Dec.{eqb}
+use lib.ListN.{length, length-take, length-drop}
 use borrow.Author.Needs.{needs}
+use borrow.Author.Tests.{eq-eqb, ne-eqb, lt-ltb, le-ltb, not-true, not-false}
+use denote.Ref.{now}
+use Rattle.igvm_defs.proofs.LengthLaws.{length-least}
+use Rattle.igvm_defs.specs.Kinds.{kindOf, lengthOk}
+use Rattle.sheet.specs.Head.{headOf}
+use Rattle.sheet.specs.Read.{listAt, rowFault}
+use Rattle.sheet.specs.Table.{rowKind, rowLength, offsetOf, bodyOf}
 use Rattle.sheet.proofs.row_fault.Statement.{statement}
 use Rattle.sheet.proofs.row_fault.Tie as tie
+
+-- the code's tests are the definition's
+list-test : (c : tie.After-list-at) → let a = c .before .before .before .before .before .args in
+    eqb (kindOf (rowKind (now (a .s)) (a .k)) .list) (listAt (headOf (now (a .s))) (a .k)) ≡ eqb (c .before .kind-of .result .list) (c .list-at .result)
+list-test c =
+    rw (← c .before .before .before .before .before .pre .0, ← c .list-at .ensures, ← c .before .before .before .kind-at .ensures, ← c .before .kind-of .ensures)
+
+long-test : (c : tie.After-length-ok) → let a = c .before .before .before .before .before .before .before .before .args in
+    lengthOk (kindOf (rowKind (now (a .s)) (a .k))) (rowLength (now (a .s)) (a .k)) ≡ c .length-ok .result
+long-test c =
+    let l = c .before .before .before in
+    rw (← l .before .before .before .kind-at .ensures, ← l .before .kind-of .ensures, ← l .before .before .length-at .ensures .0) (sym (c .length-ok .ensures))
+
+-- past the second test the length is one that the kind allows
+long : (c : tie.Else2) → c .before .length-ok .result ≡ true
+long c = not-false (c .before .length-ok .result) (c .if2 .left)
 
 kind-at-requires : tie.Need-kind-at-requires
 kind-at-requires c κs = search needs
@@ -24,11 +45,7 @@ list-at-requires c κs = search needs
 
 returns : tie.Need-returns
 unfolding rowFault
-returns c =
-    let l = c .before .before in
-    let st = l .before .before .before .before .before in
-    let s = now (st .args .s) in
-    rw (← l .before .before .before .kind-at .ensures, ← l .before .kind-of .ensures, ← st .pre .0, ← l .list-at .ensures, ne-eqb _ _ (c .if1 .taken))
+returns c = rw (list-test (c .before .before), ne-eqb _ _ (c .if1 .taken))
 
 length-ok-requires : tie.Need-length-ok-requires
 length-ok-requires c κs = search needs
@@ -36,19 +53,8 @@ length-ok-requires c κs = search needs
 returns-2 : tie.Need-returns-2
 unfolding rowFault
 returns-2 c =
-    let l = c .before .before .before .before in
-    let st = l .before .before .before .before .before in
-    let s = now (st .args .s) in
-    rw (
-      ← l .before .before .before .kind-at .ensures,
-      ← l .before .kind-of .ensures,
-      ← st .pre .0,
-      ← l .list-at .ensures,
-      eq-eqb _ _ (c .before .before .if1 .left),
-      ← l .before .before .length-at .ensures .0,
-      ← c .before .length-ok .ensures,
-      not-true (c .before .length-ok .result) (c .if2 .taken),
-    )
+    let b = c .before in
+    rw (list-test (b .before .before .before), eq-eqb _ _ (b .before .if1 .left), long-test b, not-true (b .length-ok .result) (c .if2 .taken))
 
 sub-if3 : tie.Need-sub-if3
 sub-if3 c = search needs
@@ -56,21 +62,16 @@ sub-if3 c = search needs
 returns-3 : tie.Need-returns-3
 unfolding rowFault
 returns-3 c =
-    let l = c .before .before .before .before .before in
-    let st = l .before .before .before .before .before in
-    let s = now (st .args .s) in
-    let n = l .before .before .length-at .ensures .0 in
-    let o = st .pre .2 in
+    let b = c .before .before in
+    let a = b .before .before .before .before .before .before .before .before .args in
+    let s = now (a .s) in
+    let n = b .before .before .before .before .before .length-at .ensures .0 in
     rw (
-      ← l .before .before .before .kind-at .ensures,
-      ← l .before .kind-of .ensures,
-      ← st .pre .0,
-      ← l .list-at .ensures,
-      eq-eqb _ _ (c .before .before .before .if1 .left),
-      lt-ltb (length s) (offsetOf s (st .args .k) + rowLength s (st .args .k)) (omega arith),
-      ← l .before .before .length-at .ensures .0,
-      ← c .before .before .length-ok .ensures,
-      not-false (c .before .before .length-ok .result) (c .before .if2 .left),
+      list-test (b .before .before .before),
+      eq-eqb _ _ (b .before .if1 .left),
+      long-test b,
+      long (c .before),
+      lt-ltb (length s) (offsetOf s (a .k) + rowLength s (a .k)) (omega arith),
     )
 
 part-requires : tie.Need-part-requires
@@ -78,9 +79,9 @@ part-requires c κs = search needs
 
 codes-ok-requires : tie.Need-codes-ok-requires
 codes-ok-requires c κs =
-    let l = c .before .before .before .before .before .before in
-    let ok = rw (c .before .before .before .length-ok .ensures) at (not-false (c .before .before .before .length-ok .result) (c .before .before .if2 .left)) in
-    let least = length-least (l .before .kind-of .result) (l .before .before .length-at .result) ok in
+    let e = c .before .before in
+    let l = e .before .before .before .before in
+    let least = length-least (l .before .kind-of .result) (l .before .before .length-at .result) (sym (e .before .length-ok .ensures) ∙ long e) in
     rw (c .part .ensures, ← l .before .kind-of .ensures) (simp (length-take, length-drop) (omega arith))
 
 refuse-requires : tie.Need-refuse-requires
@@ -89,21 +90,17 @@ refuse-requires c κs = search needs
 returns-4 : tie.Need-returns-4
 unfolding rowFault bodyOf
 returns-4 c =
-    let l = c .before .before .before .before .before .before .before .before in
-    let st = l .before .before .before .before .before in
+    let e = c .before .before .before .before in
+    let b = e .before in
+    let st = b .before .before .before .before .before .before .before .before in
     let s = now (st .args .s) in
-    let n = l .before .before .length-at .ensures .0 in
-    let o = st .pre .2 in
+    let n = b .before .before .before .before .before .length-at .ensures .0 in
     rw (
-      ← l .before .before .before .kind-at .ensures,
-      ← l .before .kind-of .ensures,
-      ← st .pre .0,
-      ← l .list-at .ensures,
-      eq-eqb _ _ (c .before .before .before .before .before .before .if1 .left),
+      list-test (b .before .before .before),
+      eq-eqb _ _ (b .before .if1 .left),
+      long-test b,
+      long e,
       le-ltb (length s) (offsetOf s (st .args .k) + rowLength s (st .args .k)) (omega arith),
-      ← l .before .before .length-at .ensures .0,
-      ← c .before .before .before .before .before .length-ok .ensures,
-      not-false (c .before .before .before .before .before .length-ok .result) (c .before .before .before .before .if2 .left),
     ) (cc)
 
 pub row-fault-spec : {M : Type 1} → statement M

@@ -1,6 +1,6 @@
+use borrow.Author.Needs.{needs}
 use borrow.Author.Tests.{lt-ltb, le-ltb}
 use Rattle.sheet.specs.Head.{startFault}
-use borrow.Author.Needs.{needs}
 use Rattle.sheet.proofs.start_fault.Statement.{statement}
 use Rattle.sheet.proofs.start_fault.Tie as tie
 

@@ -1,37 +1,40 @@
+use mathlib.Core.Path.{_≡_, refl}
+use Prim.Native.Nat.{_-_, _≤_}
+use native.Mathlib.Omega.{arith}
+use borrow.Author.Needs.{needs}
+use lib.Dec.{eqb}
+use lib.ListN.{getD}
+use Rattle.rows.specs.Below.{anyBelow}
+use Rattle.rows.proofs.BelowLaws.{any-more}
 use Rattle.platforms.proofs.Platforms.has_type.Statement.{statement}
 use Rattle.platforms.proofs.Platforms.has_type.Tie as tie
-use Rattle.platforms.proofs.Platforms.has_type.Reads as reads
-use Rattle.platforms.proofs.Platforms.has_type.Lts as lts
 
 abbrev Inv-loop : tie.InvT-loop
-Inv-loop kind self n i₀ found₀ i found = ?
+Inv-loop kind self n i₀ found₀ i found = (i ≤ n) × (found ≡ anyBelow i (λ j. eqb kind (getD (self .types) j 0)))
 
 abbrev μ-loop : tie.MeasureT-loop
-μ-loop kind self n i₀ found₀ i found = ?
+μ-loop kind self n i₀ found₀ i found = n - i
 
--- src/lib.rt:115:9
 loop-holds : tie.Need-loop-holds Inv-loop μ-loop
-loop-holds c = ?
+unfolding anyBelow
+loop-holds c = (search needs, refl)
 
--- src/lib.rt:116:38
 element-copy-out-found : tie.Need-element-copy-out-found Inv-loop μ-loop
-element-copy-out-found c = ?
+element-copy-out-found c = search needs
 
--- src/lib.rt:117:13
 add-i : tie.Need-add-i Inv-loop μ-loop
-add-i c = ?
+add-i c = search needs
 
--- src/lib.rt:115:9
 loop-less : tie.Need-loop-less Inv-loop μ-loop
-loop-less c = ?
+loop-less c = search needs
 
--- src/lib.rt:115:9
 loop-again : tie.Need-loop-again Inv-loop μ-loop
-loop-again c = ?
+loop-again c = (search needs, rw any-more (cc))
 
--- src/lib.rt:108:5
 returns : tie.Need-returns Inv-loop μ-loop
-returns c = ?
+returns c =
+    let e : c .before .loop .i ≡ c .before .before .args .t1 .count = omega arith in
+    rw e at (c .before .loop .inv .1)
 
 pub has-type-spec : {M : Type 1} → statement M
 has-type-spec =

@@ -1,50 +1,66 @@
+use mathlib.Core.Path.{_≡_, refl}
+use mathlib.Core.Option.{Option, none, some}
+use Prim.Native.Nat.{ℕ, _-_, _≤_}
+use native.Mathlib.Omega.{arith}
+use borrow.Author.Needs.{needs}
+use lib.Dec.{eqb}
+use lib.ListN.{getD}
+use Rattle.rows.specs.Below.{lastBelow}
+use Rattle.rows.proofs.BelowLaws.{last-more}
+use Rattle.platforms.specs.declared.Platforms.{Platforms}
+use Rattle.platforms.specs.Record.{typeIsCca, lastTypeIsCca}
 use Rattle.platforms.proofs.Platforms.last_is_cca.Statement.{statement}
 use Rattle.platforms.proofs.Platforms.last_is_cca.Tie as tie
-use Rattle.platforms.proofs.Platforms.last_is_cca.Reads as reads
-use Rattle.platforms.proofs.Platforms.last_is_cca.Lts as lts
-use Rattle.platforms.proofs.cca_after.Reads as cca-after-reads
+
+-- the type at an index that was looked for; 255 where there is none
+abbrev typeAt : Platforms → Option ℕ → ℕ
+typeAt r none = 255
+typeAt r (some i) = getD (r .types) i 0
+
+cca-type : (r : Platforms) (o : Option ℕ) → eqb (typeAt r o) 6 ≡ typeIsCca r o
+cca-type r none = refl
+cca-type r (some i) = refl
+
+last-cca : (r : Platforms) (mask type : ℕ) → type ≡ typeAt r (lastBelow (r .count) (λ j. eqb (getD (r .mask) j 0) mask)) → eqb type 6 ≡ lastTypeIsCca r mask
+unfolding lastTypeIsCca
+last-cca r mask type e = rw e (cca-type r (lastBelow (r .count) (λ j. eqb (getD (r .mask) j 0) mask)))
 
 abbrev Inv-loop : tie.InvT-loop
-Inv-loop mask self n i₀ cca₀ i cca = ?
+Inv-loop mask self n i₀ found₀ i found = (i ≤ n) × (found ≡ typeAt self (lastBelow i (λ j. eqb (getD (self .mask) j 0) mask)))
 
 abbrev μ-loop : tie.MeasureT-loop
-μ-loop mask self n i₀ cca₀ i cca = ?
+μ-loop mask self n i₀ found₀ i found = n - i
 
--- src/lib.rt:127:9
 loop-holds : tie.Need-loop-holds Inv-loop μ-loop
-loop-holds c = ?
+unfolding lastBelow
+loop-holds c = (search needs, refl)
 
--- src/lib.rt:128:34
-mul-cca-after : tie.Need-mul-cca-after Inv-loop μ-loop
-mul-cca-after c = ?
+mul-type-after : tie.Need-mul-type-after Inv-loop μ-loop
+mul-type-after c = search needs
 
--- src/lib.rt:128:34
-element-copy-out-cca-after : tie.Need-element-copy-out-cca-after Inv-loop μ-loop
-element-copy-out-cca-after c = ?
+element-copy-out-type-after : tie.Need-element-copy-out-type-after Inv-loop μ-loop
+element-copy-out-type-after c = search needs
 
--- src/lib.rt:128:56
-element-copy-out-cca-after-2 : tie.Need-element-copy-out-cca-after-2 Inv-loop μ-loop
-element-copy-out-cca-after-2 c = ?
+element-copy-out-type-after-2 : tie.Need-element-copy-out-type-after-2 Inv-loop μ-loop
+element-copy-out-type-after-2 c = search needs
 
--- src/lib.rt:128:13
-cca-after-requires : tie.Need-cca-after-requires Inv-loop μ-loop
-cca-after-requires c κs = ?
+type-after-requires : tie.Need-type-after-requires Inv-loop μ-loop
+type-after-requires c κs = search needs
 
--- src/lib.rt:129:13
 add-i : tie.Need-add-i Inv-loop μ-loop
-add-i c = ?
+add-i c = search needs
 
--- src/lib.rt:127:9
 loop-less : tie.Need-loop-less Inv-loop μ-loop
-loop-less c = ?
+loop-less c = search needs
 
--- src/lib.rt:127:9
 loop-again : tie.Need-loop-again Inv-loop μ-loop
-loop-again c = ?
+loop-again c = (search needs, rw (last-more (typeAt (c .before .before .before .before .before .args .t1))) (cc))
 
--- src/lib.rt:120:5
 returns : tie.Need-returns Inv-loop μ-loop
-returns c = ?
+returns c =
+    let a = c .before .before .args in
+    let e : c .before .loop .i ≡ a .t1 .count = omega arith in
+    last-cca (a .t1) (a .mask) (c .before .loop .found) (rw e at (c .before .loop .inv .1))
 
 pub last-is-cca-spec : {M : Type 1} → statement M
 last-is-cca-spec =
@@ -53,10 +69,10 @@ last-is-cca-spec =
     Inv-loop
     μ-loop
     loop-holds
-    mul-cca-after
-    element-copy-out-cca-after
-    element-copy-out-cca-after-2
-    cca-after-requires
+    mul-type-after
+    element-copy-out-type-after
+    element-copy-out-type-after-2
+    type-after-requires
     add-i
     loop-less
     loop-again

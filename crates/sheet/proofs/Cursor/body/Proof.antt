@@ -1,5 +1,5 @@
-use Rattle.sheet.specs.Table.{bodyOf}
 use borrow.Author.Needs.{needs}
+use Rattle.sheet.specs.Table.{bodyOf}
 use Rattle.sheet.proofs.Cursor.body.Statement.{statement}
 use Rattle.sheet.proofs.Cursor.body.Tie as tie
 

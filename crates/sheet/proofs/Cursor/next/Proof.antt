@@ -1,6 +1,6 @@
+use borrow.Author.Needs.{needs}
 use denote.Ref.{now}
 use Rattle.sheet.proofs.Readable.{offset-next}
-use borrow.Author.Needs.{needs}
 use Rattle.sheet.proofs.Cursor.next.Statement.{statement}
 use Rattle.sheet.proofs.Cursor.next.Tie as tie
 

@@ -1,5 +1,5 @@
-use Rattle.sheet.specs.Head.{headOf}
 use borrow.Author.Needs.{needs}
+use Rattle.sheet.specs.Head.{headOf}
 use Rattle.sheet.proofs.SheetHead.new.Statement.{statement}
 use Rattle.sheet.proofs.SheetHead.new.Tie as tie
 

@@ -1,5 +1,5 @@
-use Rattle.sheet.specs.Head.{pageSizeFault}
 use borrow.Author.Needs.{needs}
+use Rattle.sheet.specs.Head.{pageSizeFault}
 use Rattle.sheet.proofs.SheetHead.page_size_fault.Statement.{statement}
 use Rattle.sheet.proofs.SheetHead.page_size_fault.Tie as tie
 

@@ -1,0 +1,3 @@
+pub mod AreaLaws
+pub mod StateLaws
+pub mod OrderLaws

@@ -1,0 +1,136 @@
+-- Laws of the contexts' masks, and of the area rule over numbers.
+-- Assumes nothing.
+use Prim.Native.Nat.{ℕ, zero, suc, _+_, _≤_, _<_}
+use mathlib.Core.Path.{_≡_, refl, sym, ap, _∙_}
+use mathlib.Core.Bool.{Bool, true, false, not, cond, _&&_, _||_, or-false}
+use mathlib.Core.List.{List, [], _∷_}
+use lib.Bits.{bitOr}
+use lib.Dec.{eqb}
+use lib.ListN.{length, getD, set, take, replicate}
+use lib.Seq.{getD-set-same, getD-set-other}
+use borrow.Author.Tests.{eqb-true, eqb-false}
+use Rattle.rows.specs.Below.{anyBelow, firstBelow}
+use Rattle.rows.specs.Rows.{Rows, any, before}
+use Rattle.rows.proofs.BelowLaws.{any-more, any-same-tests, none-any, first-same-tests}
+use Rattle.areas.specs.Areas.{named, badRow, firstOr, item, firstBad}
+use Rattle.areas.specs.Areas as areas
+use Rattle.areas.proofs.AreaLaws.{first-test, first-bad-same, first-bad-take}
+use Rattle.masks.specs.Masks.{shares}
+use Rattle.masks.proofs.MaskLaws.{shares-zero-left, shares-or}
+use Rattle.directive_header.specs.declared.IgvmDirectiveHeader.{IgvmDirectiveHeader}
+use Rattle.directive_header.specs.declared.IgvmDirectiveHeader.the-variants.{PageData, ParameterArea, VpCount, EnvironmentInfo, Srat, Madt, Slit, Pptt, MmioRanges, MemoryMap, CommandLine, DeviceTree, RequiredMemory, SnpVpContext, X64NativeVpContext, X64VbsVpContext, AArch64VbsVpContext, AArch64CcaVpContext, ParameterInsert, ErrorRange, SnpIdBlock, VbsMeasurement}
+use Rattle.directive_header.specs.Fields.{kindNumber, areaOf}
+use Rattle.rules.specs.declared.Region.{Region}
+use Rattle.rules.specs.Directives.{testArea, allocates, inserts, isAllocated, badArea, isContext, noContext}
+use Rattle.directives.specs.Record.{HoldsContexts, lacksContext, howOf, areaNumber, firstBadArea}
+
+-- ---- contexts
+
+zeros : (n level : ℕ) → getD {A = ℕ} (replicate n 0) level 0 ≡ 0
+zeros zero level = refl
+zeros (suc n) zero = refl
+zeros (suc n) (suc level) = zeros n level
+
+pub holds-no-contexts : (xs : Rows IgvmDirectiveHeader) → HoldsContexts (0 ∷ 0 ∷ 0 ∷ []) (before 0 xs)
+unfolding anyBelow
+holds-no-contexts xs level bits = rw (zeros 3 level) (shares-zero-left bits)
+
+-- the mask of one VTL with more bits
+pub context-set : (contexts : List ℕ) (v mask : ℕ) → v < length contexts → (level bits : ℕ)
+    → shares (getD (set contexts v (bitOr (getD contexts v 0) mask)) level 0) bits ≡ (shares (getD contexts level 0) bits || (eqb v level && shares mask bits))
+context-set contexts v mask l level bits = go (eqb v level) refl
+  where
+    new : ℕ
+    new = bitOr (getD contexts v 0) mask
+
+    go : (b : Bool) → eqb v level ≡ b → shares (getD (set contexts v new) level 0) bits ≡ (shares (getD contexts level 0) bits || (b && shares mask bits))
+    go true e =
+        let q : level ≡ v = sym (eqb-true v level e) in
+        rw (q, getD-set-same contexts v new 0 l) (shares-or (getD contexts v 0) mask bits)
+    go false e =
+        rw (getD-set-other contexts v level new 0 (λ q. eqb-false v level e (sym q)))
+        (sym (or-false (shares (getD contexts level 0) bits)))
+
+-- masks that share a bit where those of the rows before i do, or where row i's context does
+pub holds-next : (contexts next : List ℕ) (xs : Rows IgvmDirectiveHeader) (i : ℕ)
+    → ((level bits : ℕ) → shares (getD next level 0) bits ≡ (shares (getD contexts level 0) bits || isContext level bits (xs .row i)))
+    → HoldsContexts contexts (before i xs) → HoldsContexts next (before (i + 1) xs)
+holds-next contexts next xs i more holds level bits = rw (any-more i (λ j. isContext level bits (xs .row j)), more level bits, holds level bits)
+
+pub lacks-says : (contexts : List ℕ) (ds : Rows IgvmDirectiveHeader) (r : Region) → HoldsContexts contexts ds → lacksContext contexts r ≡ noContext ds r
+unfolding lacksContext noContext
+lacks-says contexts ds r h = rw (h (r .vtl) (r .mask))
+
+-- ---- areas
+
+-- what is asked of a header's kind and area, asked of how it names an area, and which
+record SaysHow (h : IgvmDirectiveHeader) : Type 0 where
+  allocated : (x : ℕ) → allocates x h ≡ (eqb (howOf h) 0 && eqb x (areaNumber (areaOf h)))
+  inserted : (x : ℕ) → inserts x h ≡ (eqb (howOf h) 2 && eqb x (areaNumber (areaOf h)))
+  tested : (p q : ℕ → Bool) → testArea (λ x. cond (eqb (kindNumber h) 33) (p x) (q x)) (areaOf h)
+      ≡ cond (eqb (howOf h) 3) false (cond (eqb (howOf h) 0) (p (areaNumber (areaOf h))) (q (areaNumber (areaOf h))))
+
+says-how : (h : IgvmDirectiveHeader) → SaysHow h
+unfolding allocates inserts
+says-how (PageData a b c d e) = record { allocated = λ x. refl; inserted = λ x. refl; tested = λ p q. refl }
+says-how (ParameterArea a b c) = record { allocated = λ x. refl; inserted = λ x. refl; tested = λ p q. refl }
+says-how (VpCount a) = record { allocated = λ x. refl; inserted = λ x. refl; tested = λ p q. refl }
+says-how (EnvironmentInfo a) = record { allocated = λ x. refl; inserted = λ x. refl; tested = λ p q. refl }
+says-how (Srat a) = record { allocated = λ x. refl; inserted = λ x. refl; tested = λ p q. refl }
+says-how (Madt a) = record { allocated = λ x. refl; inserted = λ x. refl; tested = λ p q. refl }
+says-how (Slit a) = record { allocated = λ x. refl; inserted = λ x. refl; tested = λ p q. refl }
+says-how (Pptt a) = record { allocated = λ x. refl; inserted = λ x. refl; tested = λ p q. refl }
+says-how (MmioRanges a) = record { allocated = λ x. refl; inserted = λ x. refl; tested = λ p q. refl }
+says-how (MemoryMap a) = record { allocated = λ x. refl; inserted = λ x. refl; tested = λ p q. refl }
+says-how (CommandLine a) = record { allocated = λ x. refl; inserted = λ x. refl; tested = λ p q. refl }
+says-how (DeviceTree a) = record { allocated = λ x. refl; inserted = λ x. refl; tested = λ p q. refl }
+says-how (RequiredMemory a b c d) = record { allocated = λ x. refl; inserted = λ x. refl; tested = λ p q. refl }
+says-how (SnpVpContext a b c d) = record { allocated = λ x. refl; inserted = λ x. refl; tested = λ p q. refl }
+says-how (X64NativeVpContext a b c) = record { allocated = λ x. refl; inserted = λ x. refl; tested = λ p q. refl }
+says-how (X64VbsVpContext a b c) = record { allocated = λ x. refl; inserted = λ x. refl; tested = λ p q. refl }
+says-how (AArch64VbsVpContext a b c) = record { allocated = λ x. refl; inserted = λ x. refl; tested = λ p q. refl }
+says-how (AArch64CcaVpContext a b c) = record { allocated = λ x. refl; inserted = λ x. refl; tested = λ p q. refl }
+says-how (ParameterInsert a) = record { allocated = λ x. refl; inserted = λ x. refl; tested = λ p q. refl }
+says-how (ErrorRange a b c) = record { allocated = λ x. refl; inserted = λ x. refl; tested = λ p q. refl }
+says-how (SnpIdBlock a b) = record { allocated = λ x. refl; inserted = λ x. refl; tested = λ p q. refl }
+says-how (VbsMeasurement a b) = record { allocated = λ x. refl; inserted = λ x. refl; tested = λ p q. refl }
+
+-- the area that row j names, and how
+abbrev pub areaAt : Rows IgvmDirectiveHeader → ℕ → ℕ
+areaAt xs j = areaNumber (areaOf (xs .row j))
+
+abbrev pub howAt : Rows IgvmDirectiveHeader → ℕ → ℕ
+howAt xs j = howOf (xs .row j)
+
+-- the area of row i is bad where row i breaks the area rule over numbers
+pub bad-area-row : (xs : Rows IgvmDirectiveHeader) (i : ℕ) → badArea (before i xs) (xs .row i) ≡ badRow (areaAt xs) (howAt xs) i
+unfolding badArea isAllocated badRow areas.isAllocated named
+bad-area-row xs i =
+    let x : ℕ = areaAt xs i in
+    let al : any (allocates x) (before i xs) ≡ named (areaAt xs) (howAt xs) 0 i x = any-same-tests i _ _ (λ j l. says-how (xs .row j) .allocated x) in
+    let ins : any (inserts x) (before i xs) ≡ named (areaAt xs) (howAt xs) 2 i x = any-same-tests i _ _ (λ j l. says-how (xs .row j) .inserted x) in
+    says-how (xs .row i) .tested _ _ ∙ rw (al, ins)
+
+pub first-bad-area-rows : (xs : Rows IgvmDirectiveHeader) → firstBadArea xs ≡ firstOr (xs .count) (firstBelow (xs .count) (badRow (areaAt xs) (howAt xs)))
+unfolding firstBadArea
+first-bad-area-rows xs = ap (firstOr (xs .count)) (first-same-tests (xs .count) _ _ (λ i l. bad-area-row xs i))
+
+-- lists whose first items are what the rows name, and how, cut to the rows' number
+pub first-bad-area : (xs : Rows IgvmDirectiveHeader) (area how : List ℕ) → xs .count ≤ length area
+    → ((j : ℕ) → j < xs .count → (item area j ≡ areaAt xs j) × (item how j ≡ howAt xs j)) → firstBad (take (xs .count) area) (take (xs .count) how) ≡ firstBadArea xs
+first-bad-area xs area how l same = first-bad-take (xs .count) area how (areaAt xs) (howAt xs) l same ∙ sym (first-bad-area-rows xs)
+
+-- the same of lists as long as there are rows
+pub first-bad-area-whole : (xs : Rows IgvmDirectiveHeader) (area how : List ℕ) → length area ≡ xs .count
+    → ((j : ℕ) → j < xs .count → (item area j ≡ areaAt xs j) × (item how j ≡ howAt xs j)) → firstBad area how ≡ firstBadArea xs
+unfolding firstBad
+first-bad-area-whole xs area how e same =
+    rw e (ap (firstOr (xs .count)) (first-bad-same (xs .count) (item area) (item how) (areaAt xs) (howAt xs) same)) ∙ sym (first-bad-area-rows xs)
+
+-- with no bad area before it, a row is the first exactly where its area is bad
+pub bad-area-test : (xs : Rows IgvmDirectiveHeader) (i : ℕ) → i < xs .count → ((j : ℕ) → j < i → badArea (before j xs) (xs .row j) ≡ false)
+    → eqb i (firstBadArea xs) ≡ badArea (before i xs) (xs .row i)
+unfolding firstBadArea
+bad-area-test xs i l h =
+    let p : ℕ → Bool = λ j. badArea (before j xs) (xs .row j) in
+    first-test (xs .count) p i l (none-any i p .1 h)

@@ -1,0 +1,234 @@
+// The regions of a mask among the initialization rows of a readable sheet: how many, each by its number, and the page-table region.
+ghost use mathlib.Core.Path.{_≡_};
+ghost use mathlib.Core.Bool.{cond, _&&_};
+ghost use Prim.Native.Nat.{_≤_};
+ghost use Rattle.sheet.specs.Head.{limits, headOf};
+ghost use Rattle.sheet.specs.Read.{Readable};
+ghost use Rattle.rules.specs.Relocations.{isRelocatable, isPageTable, relocatableOf, pageTableOf, regionCount, regionAt, pageTableAt};
+ghost use Rattle.answers.specs.Relocations.{sheetInitializations};
+ghost use Rattle.regions.specs.Found.{foundRegion, foundTable};
+use initialization_header::IgvmInitializationHeader;
+use rules::IgvmRelocatableRegion;
+use rules::PageTableRegion;
+use sheet::SheetHead;
+
+// ---- one header
+
+pub fn is_relocatable(given: u32, h: IgvmInitializationHeader) -> bool
+    ensures { λ r. ⌜ r ≡ isRelocatable given h ⌝ }
+{
+    match h {
+        IgvmInitializationHeader::RelocatableRegion {
+            compatibility_mask,
+            ..
+        } => masks::matches(given, compatibility_mask),
+        _ => false,
+    }
+}
+
+fn is_page_table(given: u32, h: IgvmInitializationHeader) -> bool
+    ensures { λ r. ⌜ r ≡ isPageTable given h ⌝ }
+{
+    match h {
+        IgvmInitializationHeader::PageTableRelocationRegion {
+            compatibility_mask,
+            ..
+        } => masks::matches(given, compatibility_mask),
+        _ => false,
+    }
+}
+
+pub struct FoundRegion {
+    pub found: bool,
+    pub region: IgvmRelocatableRegion,
+}
+
+pub struct FoundTable {
+    pub found: bool,
+    pub table: PageTableRegion,
+}
+
+const NO_REGION: IgvmRelocatableRegion = IgvmRelocatableRegion {
+    base_gpa: 0,
+    size: 0,
+    relocation_alignment: 0,
+    minimum_relocation_gpa: 0,
+    maximum_relocation_gpa: 0,
+    flags: 0,
+    vp_index: 0,
+    vtl: 0,
+};
+
+pub const NO_PAGE_TABLE: PageTableRegion = PageTableRegion {
+    gpa: 0,
+    size: 0,
+    used_size: 0,
+    vp_index: 0,
+    vtl: 0,
+};
+
+fn one_if(test: bool, n: u64) -> u64
+    requires { ⌜ n ≤ 4 ⌝ }
+    ensures { λ r. ⌜ (r ≡ cond test n 0) × (r ≤ 4) ⌝ }
+{
+    if test {
+        return n;
+    }
+    0
+}
+
+pub fn relocatable_of(h: IgvmInitializationHeader) -> FoundRegion
+    ensures { λ r. ⌜ r ≡ foundRegion (relocatableOf h) ⌝ }
+{
+    match h {
+        IgvmInitializationHeader::RelocatableRegion {
+            compatibility_mask: _,
+            relocation_alignment,
+            relocation_region_gpa,
+            relocation_region_size,
+            minimum_relocation_gpa,
+            maximum_relocation_gpa,
+            is_vtl2,
+            apply_rip_offset,
+            apply_gdtr_offset,
+            vp_index,
+            vtl,
+        } => FoundRegion {
+            found: true,
+            region: IgvmRelocatableRegion {
+                base_gpa: relocation_region_gpa,
+                size: relocation_region_size,
+                relocation_alignment: relocation_alignment,
+                minimum_relocation_gpa: minimum_relocation_gpa,
+                maximum_relocation_gpa: maximum_relocation_gpa,
+                flags: one_if(is_vtl2, 1)
+                    + one_if(apply_rip_offset, 2)
+                    + one_if(apply_gdtr_offset, 4),
+                vp_index: vp_index as u64,
+                vtl: vtl.code() as u64,
+            },
+        },
+        _ => FoundRegion {
+            found: false,
+            region: NO_REGION,
+        },
+    }
+}
+
+fn page_table_of(h: IgvmInitializationHeader) -> FoundTable
+    ensures { λ r. ⌜ r ≡ foundTable (pageTableOf h) ⌝ }
+{
+    match h {
+        IgvmInitializationHeader::PageTableRelocationRegion {
+            compatibility_mask: _,
+            gpa,
+            size,
+            used_size,
+            vp_index,
+            vtl,
+        } => FoundTable {
+            found: true,
+            table: PageTableRegion {
+                gpa: gpa,
+                size: size,
+                used_size: used_size,
+                vp_index: vp_index as u64,
+                vtl: vtl.code() as u64,
+            },
+        },
+        _ => FoundTable {
+            found: false,
+            table: NO_PAGE_TABLE,
+        },
+    }
+}
+
+// ---- over the initialization rows of a readable sheet
+
+// How many regions the mask has.
+pub fn count_regions(s: &[u8], head: SheetHead, given: u32) -> usize
+    requires { ⌜ Readable limits (now s) × (head ≡ headOf (now s)) ⌝ }
+    ensures { λ r. ⌜ (r ≡ regionCount (sheetInitializations (now (s .entry))) given) × (r ≤ 64) ⌝ }
+{
+    let n = head.initializations as usize;
+    let mut c = sheet::cursor_at(s, head.platforms as usize);
+    let mut count: usize = 0;
+    let mut i = 0;
+    while i < n {
+        count += one_if(is_relocatable(given, headers::initialization_at(s, c)), 1) as usize;
+        c = c.next(s);
+        i += 1;
+    }
+    count
+}
+
+// The region that was found, or this header's where it is the one looked for.
+fn region_step(
+    given: u32,
+    h: IgvmInitializationHeader,
+    here: bool,
+    found: FoundRegion,
+) -> FoundRegion
+    ensures { λ r. ⌜ r ≡ cond (isRelocatable given h && here) (foundRegion (relocatableOf h)) found ⌝ }
+{
+    if is_relocatable(given, h) & here {
+        return relocatable_of(h);
+    }
+    found
+}
+
+// Region k of the mask, from 0.
+pub fn region_at(s: &[u8], head: SheetHead, given: u32, k: u64) -> FoundRegion
+    requires { ⌜ Readable limits (now s) × (head ≡ headOf (now s)) ⌝ }
+    ensures { λ r. ⌜ r ≡ foundRegion (regionAt (sheetInitializations (now (s .entry))) given k) ⌝ }
+{
+    let n = head.initializations as usize;
+    let mut c = sheet::cursor_at(s, head.platforms as usize);
+    let mut found = FoundRegion {
+        found: false,
+        region: NO_REGION,
+    };
+    let mut seen: u64 = 0;
+    let mut i = 0;
+    while i < n {
+        let h = headers::initialization_at(s, c);
+        found = region_step(given, h, seen == k, found);
+        seen += one_if(is_relocatable(given, h), 1);
+        c = c.next(s);
+        i += 1;
+    }
+    found
+}
+
+// The table that was found, or this header's where it is the first.
+fn table_step(given: u32, h: IgvmInitializationHeader, here: bool, found: FoundTable) -> FoundTable
+    ensures { λ r. ⌜ r ≡ cond (isPageTable given h && here) (foundTable (pageTableOf h)) found ⌝ }
+{
+    if is_page_table(given, h) & here {
+        return page_table_of(h);
+    }
+    found
+}
+
+// The page-table region of the mask.
+pub fn page_table_at(s: &[u8], head: SheetHead, given: u32) -> FoundTable
+    requires { ⌜ Readable limits (now s) × (head ≡ headOf (now s)) ⌝ }
+    ensures { λ r. ⌜ r ≡ foundTable (pageTableAt (sheetInitializations (now (s .entry))) given) ⌝ }
+{
+    let n = head.initializations as usize;
+    let mut c = sheet::cursor_at(s, head.platforms as usize);
+    let mut found = FoundTable {
+        found: false,
+        table: NO_PAGE_TABLE,
+    };
+    let mut seen: u64 = 0;
+    let mut i = 0;
+    while i < n {
+        let h = headers::initialization_at(s, c);
+        found = table_step(given, h, seen == 0, found);
+        seen += one_if(is_page_table(given, h), 1);
+        c = c.next(s);
+        i += 1;
+    }
+    found
+}
