@@ -20,7 +20,7 @@ use Rattle.rules.specs.declared.IgvmRelocatableRegion.{IgvmRelocatableRegion}
 use Rattle.rules.specs.declared.PageTableRegion.{PageTableRegion}
 use Rattle.rules.specs.Relocations.{regionCount, regionAt, pageTableAt}
 use Rattle.rules.proofs.FaultLaws.{refuse-none, else-none}
-use Rattle.words.proofs.LentLaws.{rows-word}
+use Rattle.words.proofs.LentLaws.{same-words}
 use Rattle.answers.specs.Verdict.{verdictRefusal}
 use Rattle.answers.specs.Relocations.{sheetInitializations, maskFault, wordsFault, relocationsRefusal, foundOf, relocationsOf, regionWords, wordsAfter, regionFault, checkRefusal, checkOf}
 use Rattle.order.specs.Demand.{Accepted}
@@ -87,7 +87,7 @@ module _ (l : Limits) (a b : List ℕ) (va : Accepted l a) (vb : Accepted l b) (
       let ra = list-says l a given (length x) fa .1 in
       let rb = list-says l b given (length y) fb .1 in
       rw (list-count l a given (length x) fa, list-count l b given (length y) fb)
-      (rows-word (regionsOf a given) (regionsOf b given) _ _ x y n m k (omega arith) (omega arith) ln lm lk (ap regionWords e))
+      (same-words (regionsOf a given) (regionsOf b given) _ _ x y (omega arith) (omega arith) n m k ln lm lk (ap regionWords e))
 
   -- ---- checks on one region
   pub check-same : (p : IgvmRelocatableRegion → Bool) (n m : ℕ) → n < regionsOf a given → m < regionsOf b given

@@ -1,8 +1,8 @@
 -- Bytes that a caller lends, changed byte by byte; and words in them, eight bytes each, little-endian.
-use Prim.Native.Nat.{ℕ, suc, _*_, _/_, _%_}
-use mathlib.Core.Bool.{cond}
+use Prim.Native.Nat.{ℕ, suc, _+_, _-_, _*_, _/_, _%_}
+use mathlib.Core.Bool.{cond, _&&_}
 use mathlib.Core.List.{List, [], _∷_}
-use lib.Dec.{eqb, ltb}
+use lib.Dec.{leb, ltb}
 use lib.ListN.{getD}
 use Rattle.le.specs.Le.{byteOf}
 
@@ -14,9 +14,17 @@ eachFrom i f (x ∷ b) = f i x ∷ eachFrom (suc i) f b
 abbrev pub each : (ℕ → ℕ → ℕ) → List ℕ → List ℕ
 each f b = eachFrom 0 f b
 
--- the lent bytes with eight words as row n: bytes 64 n to 64 n + 63
+-- the lent bytes with f j at each place j from `first` up to, not including, `end`
+unfoldable pub bytesPut : ℕ → ℕ → (ℕ → ℕ) → List ℕ → List ℕ
+bytesPut first end f b = each (λ j x. cond (leb first j && ltb j end) (f j) x) b
+
+-- with v as word w
+unfoldable pub wordPut : ℕ → ℕ → List ℕ → List ℕ
+wordPut w v b = bytesPut (8 * w) (8 * w + 8) (λ j. byteOf (j - 8 * w) v) b
+
+-- with eight words as row n
 unfoldable pub rowPut : ℕ → List ℕ → List ℕ → List ℕ
-rowPut n words b = each (λ j x. cond (eqb (j / 64) n) (byteOf (j % 8) (getD words (j / 8 % 8) 0)) x) b
+rowPut n words b = bytesPut (64 * n) (64 * n + 64) (λ j. byteOf (j % 8) (getD words (j / 8 % 8) 0)) b
 
 -- the lent bytes with rows of eight words in front: word k of row n is item k of `row n`, for the `count` rows from 0 on. Bytes behind them keep their contents
 unfoldable pub rowsPut : ℕ → (ℕ → List ℕ) → List ℕ → List ℕ
