@@ -1,0 +1,117 @@
+use mathlib.Core.Path.{_≡_}
+use mathlib.Core.Bool.{true, false}
+use Prim.Native.Nat.{_-_}
+use native.Mathlib.Omega.{arith}
+use borrow.Author.Needs.{needs}
+use denote.Ref.{now}
+use Rattle.headers.specs.Headers.{sheetHeaders}
+use Rattle.platforms.specs.Record.{PlatformStepped}
+use Rattle.sheet.proofs.Readable.{offset-first, readable-bounds}
+use Rattle.file.proofs.FirstPasses.{PlatformsReached, reached-first, platform-known, platform-room, platform-stepped, platform-next, platforms-stop, platforms-end}
+use Rattle.file.proofs.validate_platform_headers.Statement.{statement}
+use Rattle.file.proofs.validate_platform_headers.Tie as tie
+use Rattle.file.proofs.validate_platform_headers.Reads as reads
+use Rattle.file.proofs.validate_platform_headers.Lts as lts
+
+abbrev Inv-loop : tie.InvT-loop
+Inv-loop s n arch c₀ platforms₀ i₀ c platforms i = PlatformsReached s n arch c platforms i
+
+abbrev μ-loop : tie.MeasureT-loop
+μ-loop s n arch c₀ platforms₀ i₀ c platforms i = n - i
+
+cast-n : tie.Need-cast-n Inv-loop μ-loop
+cast-n c = search needs
+
+revision-requires : tie.Need-revision-requires Inv-loop μ-loop
+revision-requires c κs = search needs
+
+arch-requires : tie.Need-arch-requires Inv-loop μ-loop
+arch-requires c κs = search needs
+
+rows-requires : tie.Need-rows-requires Inv-loop μ-loop
+rows-requires c κs = search needs
+
+new-requires : tie.Need-new-requires Inv-loop μ-loop
+new-requires c κs =
+    let st = c .before .before .before .before .before in
+    let b = readable-bounds (now (st .args .s)) (st .pre .0) in
+    rw (c .rows .ensures, st .pre .1) (omega arith)
+
+new-requires-2 : tie.Need-new-requires-2 Inv-loop μ-loop
+new-requires-2 c κs = search needs
+
+loop-holds : tie.Need-loop-holds Inv-loop μ-loop
+loop-holds c = ?
+
+platform-at-requires : tie.Need-platform-at-requires Inv-loop μ-loop
+platform-at-requires c κs = platform-known (c .before .loop .inv) (c .loop-test .taken)
+
+step-requires : tie.Need-step-requires Inv-loop μ-loop
+step-requires c κs = platform-room (c .before .before .loop .inv) (c .before .loop-test .taken)
+
+-- what the step answers is the row's fault, and the record with the row
+stepped : (c : tie.After-step Inv-loop μ-loop)
+    → let l = c .before .before .before .loop in
+    let h = sheetHeaders (now (c .before .before .before .before .before .before .before .before .before .before .before .args .s)) in
+    PlatformStepped (h .arch) (h .platforms) (l .i) (c .step .result .fault) (c .step .result .platforms)
+stepped c = platform-stepped (c .before .before .before .loop .inv) _ _ _ (c .before .platform-at .ensures) (c .step .ensures)
+
+is-fault-requires : tie.Need-is-fault-requires Inv-loop μ-loop
+is-fault-requires c κs = search needs
+
+add-in-row : tie.Need-add-in-row Inv-loop μ-loop
+add-in-row c = search needs
+
+in-row-requires : tie.Need-in-row-requires Inv-loop μ-loop
+in-row-requires c κs = search needs
+
+returns : tie.Need-returns Inv-loop μ-loop
+returns c = ?
+
+next-requires : tie.Need-next-requires Inv-loop μ-loop
+next-requires c κs = let t = c .before .before .before .before .before .before in platform-known (t .before .loop .inv) (t .loop-test .taken) .0
+
+add-i : tie.Need-add-i Inv-loop μ-loop
+add-i c = search needs
+
+loop-less : tie.Need-loop-less Inv-loop μ-loop
+loop-less c = search needs
+
+loop-again : tie.Need-loop-again Inv-loop μ-loop
+loop-again c = ?
+
+refuse-requires : tie.Need-refuse-requires Inv-loop μ-loop
+refuse-requires c κs = search needs
+
+in-row-requires-2 : tie.Need-in-row-requires-2 Inv-loop μ-loop
+in-row-requires-2 c κs = search needs
+
+returns-2 : tie.Need-returns-2 Inv-loop μ-loop
+returns-2 c = ?
+
+pub validate-platform-headers-spec : {M : Type 1} → statement M
+validate-platform-headers-spec =
+    tie.close
+    (tie.spec
+    Inv-loop
+    μ-loop
+    cast-n
+    revision-requires
+    arch-requires
+    rows-requires
+    new-requires
+    new-requires-2
+    loop-holds
+    platform-at-requires
+    step-requires
+    is-fault-requires
+    add-in-row
+    in-row-requires
+    returns
+    next-requires
+    add-i
+    loop-less
+    loop-again
+    refuse-requires
+    in-row-requires-2
+    returns-2)
