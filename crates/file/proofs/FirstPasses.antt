@@ -15,9 +15,10 @@ use Rattle.igvm_defs.specs.declared.Fault.{Fault}
 use Rattle.igvm_defs.specs.declared.Refusal.{Refusal}
 use Rattle.igvm_defs.specs.Kinds.{kindOf, platformList, initializationList}
 use Rattle.igvm_defs.specs.Refusals.{fault, noFault, noRefusal, refuse, isFault, isRefusal, inRow, firstFault}
+use Rattle.igvm_defs.specs.Revision.{archOf}
 use Rattle.igvm_defs.proofs.RefusalLaws.{row-refusal, orElse-first, orElse-later, fault-stop, fault-end}
 use Rattle.sheet.specs.declared.Cursor.{Cursor}
-use Rattle.sheet.specs.Head.{limits, headOf}
+use Rattle.sheet.specs.Head.{limits, headOf, revisionOf}
 use Rattle.sheet.specs.Table.{rowKind, bodyOf}
 use Rattle.sheet.specs.Read.{Readable}
 use Rattle.sheet.specs.Walk.{cursorAt, AtRow}
@@ -62,6 +63,10 @@ module _ (s : List ℕ) (first n : ℕ) (f : ℕ → Fault) where
 -- a pass that stopped has a refusal
 stopped : {A : Type 0} (row : ℕ) (f : Fault) → isFault f ≡ true → isRefusal (inRow row f) ≡ false → A
 stopped row f t e = absurd (false≢true (sym e ∙ row-refusal row f ∙ t))
+
+pub sheet-arch : (s : List ℕ) → sheetHeaders s .arch ≡ archOf (revisionOf (headOf s))
+unfolding sheetHeaders
+sheet-arch s = refl
 
 -- ---- the platform rows
 
@@ -119,20 +124,113 @@ module _ {s : List ℕ} {n : ℕ} {a : Arch} {c : Cursor} {p : Platforms} {i : �
         holds = step .next;
       }
 
+  told-platforms : firstFault 0 (sheetHeaders s .platforms .count) (platformFaults (sheetHeaders s)) ≡ firstFault 0 n (platformFaults (sheetHeaders s))
+  told-platforms = rw (platforms-count s, ← r .rows)
+
   pub platforms-stop : (f : Fault) (q : Platforms) → i < n → PlatformStepped (sheetHeaders s .arch) (sheetHeaders s .platforms) i f q → isFault f ≡ true
       → PlatformsPassed s (inRow (i + 1) f) q
-  platforms-stop f q l step t = record { told = sym (platforms-first (sheetHeaders s) (inRow (i + 1) f) first (rw row-refusal t)); holds = stopped (i + 1) f t }
-    where
-      first : firstFault 0 (sheetHeaders s .platforms .count) (platformFaults (sheetHeaders s)) ≡ inRow (i + 1) f
-      first =
-          rw (platforms-count s, ← r .rows, reached-stop s 0 n (platformFaults (sheetHeaders s)) c i (r .reached) l (rw (← step .told) t), zero-add, step .told)
+  platforms-stop f q l step t =
+      let e : firstFault 0 n (platformFaults (sheetHeaders s)) ≡ inRow (i + 1) f = rw (reached-stop s 0 n (platformFaults (sheetHeaders s)) c i (r .reached) l (rw (← step .told) t), zero-add, step .told) in
+      record { told = sym (platforms-first (sheetHeaders s) (inRow (i + 1) f) (told-platforms ∙ e) (rw row-refusal t)); holds = stopped (i + 1) f t }
 
   pub platforms-end : n ≤ i → PlatformsPassed s (inRow 0 (refuse (eqb n 0) (fault 15 0) noFault)) p
   unfolding noPlatform
-  platforms-end l = record { told = rw (platforms-last (sheetHeaders s) first, platforms-count s, ← r .rows); holds = λ _. rw e at (r .holds) }
-    where
-      first : firstFault 0 (sheetHeaders s .platforms .count) (platformFaults (sheetHeaders s)) ≡ noRefusal
-      first = rw (platforms-count s, ← r .rows) (reached-end s 0 n (platformFaults (sheetHeaders s)) c i (r .reached) l)
+  platforms-end l =
+      let b = r .reached .below in
+      let e : i ≡ n = omega arith in
+      record {
+        told = rw (platforms-last (sheetHeaders s) (told-platforms ∙ reached-end s 0 n (platformFaults (sheetHeaders s)) c i (r .reached) l), platforms-count s, ← r .rows);
+        holds = λ _. rw (e ∙ r .rows ∙ sym (platforms-count s)) at (r .holds);
+      }
 
-      e : i ≡ sheetHeaders s .platforms .count
-      e = let b = r .reached .below in rw (platforms-count s, ← r .rows) (omega arith)
+-- ---- the initialization rows
+
+pub initializations-count : (s : List ℕ) → sheetHeaders s .initializations .count ≡ headOf s .initializations
+unfolding sheetHeaders
+initializations-count s = refl
+
+pub initialization-header : (s : List ℕ) (i : ℕ)
+    → sheetHeaders s .initializations .row i ≡ initializationOf (rowKind s (headOf s .platforms + i)) (bodyOf s (headOf s .platforms + i))
+unfolding sheetHeaders
+initialization-header s i = refl
+
+initializations-first : (h : Headers) (first n : ℕ) → first ≡ h .platforms .count → n ≡ h .initializations .count
+    → initializationsRefusal h ≡ firstFault first n (initializationFaults h)
+unfolding initializationsRefusal
+initializations-first h first n e d = rw (e, d)
+
+-- at the head of the loop
+pub record InitializationsReached (s : List ℕ) (p : Platforms) (first n : ℕ) (a : Arch) (c : Cursor) (q : RelocRegions) (i : ℕ) : Type 0 where
+  pub readable : Readable limits s
+  pub platforms : HoldsPlatforms p (sheetHeaders s .platforms)
+  pub first-row : first ≡ headOf s .platforms
+  pub rows : n ≡ headOf s .initializations
+  pub arch : a ≡ sheetHeaders s .arch
+  pub reached : Reached s first n (initializationFaults (sheetHeaders s)) c i
+  pub holds : HoldsRegions q (before i (sheetHeaders s .initializations))
+
+module _ {s : List ℕ} {p : Platforms} {first n : ℕ} {a : Arch} {c : Cursor} {q : RelocRegions} {i : ℕ} (r : InitializationsReached s p first n a c q i) where
+  pub initialization-known : i < n → AtRow s c × (kindOf (rowKind s (c .row)) .list ≡ initializationList)
+  initialization-known l =
+      let e = r .rows in
+      let d = r .first-row in
+      rw (r .reached .at)
+      (at-row limits s (r .readable) (first + i) (omega arith), initialization-row limits s (r .readable) (first + i) (omega arith) (omega arith))
+
+  pub initialization-small : i < n → first + i < 80
+  initialization-small l =
+      let b = readable-bounds s (r .readable) in
+      let e = r .rows in
+      let d = r .first-row in
+      omega arith
+
+  pub initialization-room : i < n → (q .count < 64) × (p .count ≤ 16)
+  initialization-room l =
+      let b = readable-bounds s (r .readable) in
+      let e = r .rows in
+      let h = r .holds .count in
+      (omega arith, holds-count p (sheetHeaders s .platforms) (r .platforms))
+
+  -- the step's answer, at the row that the cursor stands at
+  pub initialization-stepped : (h : IgvmInitializationHeader) (f : Fault) (next : RelocRegions) → h ≡ initializationOf (rowKind s (c .row)) (bodyOf s (c .row))
+      → ((ps : Rows IgvmPlatformHeader) (xs : Rows IgvmInitializationHeader) (j : ℕ) → HoldsPlatforms p ps → h ≡ xs .row j → HoldsRegions q (before j xs)
+      → InitializationStepped a ps xs j f next)
+      → InitializationStepped (sheetHeaders s .arch) (sheetHeaders s .platforms) (sheetHeaders s .initializations) i f next
+  initialization-stepped h f next e step =
+      rw (← r .arch)
+      (step (sheetHeaders s .platforms) (sheetHeaders s .initializations) i (r .platforms) (rw (e, r .reached .at, initialization-header s i, r .first-row)) (r .holds))
+
+  pub initialization-next : (d : Cursor) (f : Fault) (next : RelocRegions) → i < n
+      → InitializationStepped (sheetHeaders s .arch) (sheetHeaders s .platforms) (sheetHeaders s .initializations) i f next → isFault f ≡ false
+      → d ≡ cursorAt s (c .row + 1) → InitializationsReached s p first n a d next (i + 1)
+  initialization-next d f next l step e at =
+      record {
+        readable = r .readable;
+        platforms = r .platforms;
+        first-row = r .first-row;
+        rows = r .rows;
+        arch = r .arch;
+        reached = reached-next s first n (initializationFaults (sheetHeaders s)) c d i (r .reached) l (rw (← step .told) e) at;
+        holds = step .next;
+      }
+
+  told-initializations : initializationsRefusal (sheetHeaders s) ≡ firstFault first n (initializationFaults (sheetHeaders s))
+  told-initializations = initializations-first (sheetHeaders s) first n (r .first-row ∙ sym (platforms-count s)) (r .rows ∙ sym (initializations-count s))
+
+  pub initializations-stop : (f : Fault) (next : RelocRegions) → i < n
+      → InitializationStepped (sheetHeaders s .arch) (sheetHeaders s .platforms) (sheetHeaders s .initializations) i f next → isFault f ≡ true
+      → InitializationsPassed s (inRow (first + i + 1) f) next
+  initializations-stop f next l step t =
+      record {
+        told = rw (told-initializations, reached-stop s first n (initializationFaults (sheetHeaders s)) c i (r .reached) l (rw (← step .told) t), step .told);
+        holds = stopped (first + i + 1) f t;
+      }
+
+  pub initializations-end : n ≤ i → InitializationsPassed s noRefusal q
+  initializations-end l =
+      let b = r .reached .below in
+      let e : i ≡ n = omega arith in
+      record {
+        told = rw (told-initializations, reached-end s first n (initializationFaults (sheetHeaders s)) c i (r .reached) l);
+        holds = λ _. rw (e ∙ r .rows ∙ sym (initializations-count s)) at (r .holds);
+      }

@@ -1,1 +1,2 @@
 pub mod FirstPasses
+pub mod VerdictLaws

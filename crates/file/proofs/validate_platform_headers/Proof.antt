@@ -4,14 +4,13 @@ use Prim.Native.Nat.{_-_}
 use native.Mathlib.Omega.{arith}
 use borrow.Author.Needs.{needs}
 use denote.Ref.{now}
+use Rattle.igvm_defs.specs.Refusals.{isFault}
 use Rattle.headers.specs.Headers.{sheetHeaders}
 use Rattle.platforms.specs.Record.{PlatformStepped}
 use Rattle.sheet.proofs.Readable.{offset-first, readable-bounds}
-use Rattle.file.proofs.FirstPasses.{PlatformsReached, reached-first, platform-known, platform-room, platform-stepped, platform-next, platforms-stop, platforms-end}
+use Rattle.file.proofs.FirstPasses.{sheet-arch, PlatformsReached, reached-first, platform-known, platform-room, platform-stepped, platform-next, platforms-stop, platforms-end}
 use Rattle.file.proofs.validate_platform_headers.Statement.{statement}
 use Rattle.file.proofs.validate_platform_headers.Tie as tie
-use Rattle.file.proofs.validate_platform_headers.Reads as reads
-use Rattle.file.proofs.validate_platform_headers.Lts as lts
 
 abbrev Inv-loop : tie.InvT-loop
 Inv-loop s n arch c₀ platforms₀ i₀ c platforms i = PlatformsReached s n arch c platforms i
@@ -41,7 +40,16 @@ new-requires-2 : tie.Need-new-requires-2 Inv-loop μ-loop
 new-requires-2 c κs = search needs
 
 loop-holds : tie.Need-loop-holds Inv-loop μ-loop
-loop-holds c = ?
+loop-holds c =
+    let st = c .before .before .before .before .before .before .before in
+    let s = now (st .args .s) in
+    record {
+      readable = st .pre .0;
+      rows = rw (st .pre .1);
+      arch = rw (c .before .before .before .arch .ensures, c .before .before .before .before .revision .ensures, st .pre .1, sheet-arch s);
+      reached = reached-first _ _ _ _ _ (rw (c .before .new .ensures, c .before .before .rows .ensures, st .pre .1, offset-first s));
+      holds = c .new2 .ensures (sheetHeaders s .platforms);
+    }
 
 platform-at-requires : tie.Need-platform-at-requires Inv-loop μ-loop
 platform-at-requires c κs = platform-known (c .before .loop .inv) (c .loop-test .taken)
@@ -66,10 +74,16 @@ in-row-requires : tie.Need-in-row-requires Inv-loop μ-loop
 in-row-requires c κs = search needs
 
 returns : tie.Need-returns Inv-loop μ-loop
-returns c = ?
+returns c =
+    let t = c .before .before .before .before .before .before .before in
+    let step = c .before .before .before .before .before in
+    let e : isFault (step .step .result .fault) ≡ true = rw (← c .before .before .is-fault .ensures) (c .before .if1 .taken) in
+    rw (c .in-row .ensures) (platforms-stop (t .before .loop .inv) _ _ (t .loop-test .taken) (stepped step) e)
 
 next-requires : tie.Need-next-requires Inv-loop μ-loop
-next-requires c κs = let t = c .before .before .before .before .before .before in platform-known (t .before .loop .inv) (t .loop-test .taken) .0
+next-requires c κs =
+    let t = c .before .before .before .before .before .before in
+    platform-known (t .before .loop .inv) (t .loop-test .taken) .0
 
 add-i : tie.Need-add-i Inv-loop μ-loop
 add-i c = search needs
@@ -78,7 +92,11 @@ loop-less : tie.Need-loop-less Inv-loop μ-loop
 loop-less c = search needs
 
 loop-again : tie.Need-loop-again Inv-loop μ-loop
-loop-again c = ?
+loop-again c =
+    let t = c .before .before .before .before .before .before .before in
+    let step = c .before .before .before .before .before in
+    let e : isFault (step .step .result .fault) ≡ false = rw (← c .before .before .is-fault .ensures) (c .before .if1 .left) in
+    platform-next (t .before .loop .inv) _ _ _ (t .loop-test .taken) (stepped step) e (c .next2 .ensures)
 
 refuse-requires : tie.Need-refuse-requires Inv-loop μ-loop
 refuse-requires c κs = search needs
@@ -87,7 +105,9 @@ in-row-requires-2 : tie.Need-in-row-requires-2 Inv-loop μ-loop
 in-row-requires-2 c κs = search needs
 
 returns-2 : tie.Need-returns-2 Inv-loop μ-loop
-returns-2 c = ?
+returns-2 c =
+    let l = c .before .before in
+    rw (c .in-row2 .ensures, c .before .refuse .ensures) (platforms-end (l .before .loop .inv) (l .loop-test .left))
 
 pub validate-platform-headers-spec : {M : Type 1} → statement M
 validate-platform-headers-spec =
