@@ -2,7 +2,6 @@
 -- Assumes nothing.
 use Prim.Native.Nat.{ℕ, _+_, _<_, _≤_}
 use native.Mathlib.Omega.{arith}
-use native.Mathlib.Nat.{add-assoc}
 use mathlib.Core.Path.{_≡_, refl, sym, ap, _∙_}
 use mathlib.Core.Bool.{true, false}
 use mathlib.Core.List.{List}
@@ -52,6 +51,12 @@ at-directive s ok i l =
       row = at-row limits s ok (firstDirective s + i) (omega arith);
       list = directive-row limits s ok (firstDirective s + i) (omega arith) (omega arith);
     }
+
+pub cursor-first : (s : List ℕ) → cursorAt s (firstDirective s) ≡ cursorAt s (firstDirective s + 0)
+cursor-first s = ap (cursorAt s) (omega arith)
+
+pub cursor-more : (s : List ℕ) (i : ℕ) → cursorAt s (firstDirective s + i + 1) ≡ cursorAt s (firstDirective s + (i + 1))
+cursor-more s i = ap (cursorAt s) (omega arith)
 
 pub directive-header : (s : List ℕ) (i : ℕ) → directiveOf (rowKind s (firstDirective s + i)) (bodyOf s (firstDirective s + i)) ≡ sheetHeaders s .directives .row i
 unfolding sheetHeaders
@@ -114,8 +119,8 @@ module _ (f : Headers) where
   unfolding directivesRefusal noMatchingVpContext
   directives-end r contexts regions holds h =
       let same : anyRegion (lacksContext contexts) r ≡ any (regionPasses (noContext (f .directives))) (f .initializations) =
-          any-same-tests (r .count) (λ i. lacksContext contexts (entry r i)) (λ i. noContext (f .directives) (entry r i)) (λ i l. lacks-says contexts (f .directives) (entry r i) holds)
-          ∙ regions .same (noContext (f .directives))
+      any-same-tests (r .count) (λ i. lacksContext contexts (entry r i)) (λ i. noContext (f .directives) (entry r i)) (λ i l. lacks-says contexts (f .directives) (entry r i) holds)
+      ∙ regions .same (noContext (f .directives))
       in
       rw (same, fault-end (f .platforms .count + f .initializations .count) (f .directives .count) (directiveFaults f) h)
       (sym (orElse-later noRefusal (inRow 0 (noMatchingVpContext f)) no-refusal))

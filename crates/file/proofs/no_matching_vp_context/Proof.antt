@@ -1,43 +1,43 @@
+use mathlib.Core.Path.{_≡_, refl}
+use Prim.Native.Nat.{_-_, _≤_}
+use native.Mathlib.Omega.{arith}
+use borrow.Author.Needs.{needs}
+use Rattle.rows.specs.Below.{anyBelow}
+use Rattle.rows.proofs.BelowLaws.{any-more}
+use Rattle.initializations.specs.Record.{entry}
+use Rattle.directives.specs.Record.{lacksContext}
 use Rattle.file.proofs.no_matching_vp_context.Statement.{statement}
 use Rattle.file.proofs.no_matching_vp_context.Tie as tie
-use Rattle.file.proofs.no_matching_vp_context.Reads as reads
-use Rattle.file.proofs.no_matching_vp_context.Lts as lts
-use Rattle.directives.proofs.lacks_context.Reads as lacks-context-reads
-use Rattle.initializations.proofs.RelocRegions.entry.Reads as entry-reads
 
 abbrev Inv-loop : tie.InvT-loop
-Inv-loop regions contexts n i₀ found₀ i found = ?
+Inv-loop regions contexts n i₀ found₀ i found = (i ≤ n) × (found ≡ anyBelow i (λ j. lacksContext contexts (entry regions j)))
 
 abbrev μ-loop : tie.MeasureT-loop
-μ-loop regions contexts n i₀ found₀ i found = ?
+μ-loop regions contexts n i₀ found₀ i found = n - i
 
--- src/lib.rt:141:5
 loop-holds : tie.Need-loop-holds Inv-loop μ-loop
-loop-holds c = ?
+unfolding anyBelow
+loop-holds c = (search needs, refl)
 
--- src/lib.rt:142:61
 entry-requires : tie.Need-entry-requires Inv-loop μ-loop
-entry-requires c κs = ?
+entry-requires c κs = search needs
 
--- src/lib.rt:142:25
 lacks-context-requires : tie.Need-lacks-context-requires Inv-loop μ-loop
-lacks-context-requires c κs = ?
+lacks-context-requires c κs = search needs
 
--- src/lib.rt:143:9
 add-i : tie.Need-add-i Inv-loop μ-loop
-add-i c = ?
+add-i c = search needs
 
--- src/lib.rt:141:5
 loop-less : tie.Need-loop-less Inv-loop μ-loop
-loop-less c = ?
+loop-less c = search needs
 
--- src/lib.rt:141:5
 loop-again : tie.Need-loop-again Inv-loop μ-loop
-loop-again c = ?
+loop-again c = (search needs, rw any-more (cc))
 
--- src/lib.rt:134:1
 returns : tie.Need-returns Inv-loop μ-loop
-returns c = ?
+returns c =
+    let e : c .before .loop .i ≡ c .before .before .args .regions .count = omega arith in
+    rw e at (c .before .loop .inv .1)
 
 pub no-matching-vp-context-spec : {M : Type 1} → statement M
 no-matching-vp-context-spec =
