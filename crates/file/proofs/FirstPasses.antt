@@ -15,10 +15,9 @@ use Rattle.igvm_defs.specs.declared.Fault.{Fault}
 use Rattle.igvm_defs.specs.declared.Refusal.{Refusal}
 use Rattle.igvm_defs.specs.Kinds.{kindOf, platformList, initializationList}
 use Rattle.igvm_defs.specs.Refusals.{fault, noFault, noRefusal, refuse, isFault, isRefusal, inRow, firstFault}
-use Rattle.igvm_defs.specs.Revision.{archOf}
 use Rattle.igvm_defs.proofs.RefusalLaws.{row-refusal, orElse-first, orElse-later, fault-stop, fault-end}
 use Rattle.sheet.specs.declared.Cursor.{Cursor}
-use Rattle.sheet.specs.Head.{limits, headOf, revisionOf}
+use Rattle.sheet.specs.Head.{limits, headOf}
 use Rattle.sheet.specs.Table.{rowKind, bodyOf}
 use Rattle.sheet.specs.Read.{Readable}
 use Rattle.sheet.specs.Walk.{cursorAt, AtRow}
@@ -35,44 +34,37 @@ use Rattle.platforms.proofs.RecordLaws.{holds-count}
 use Rattle.initializations.specs.declared.RelocRegions.{RelocRegions}
 use Rattle.initializations.specs.Record.{HoldsRegions, InitializationStepped}
 use Rattle.file.specs.Passes.{PlatformsPassed, InitializationsPassed}
+use Rattle.file.proofs.DirectivePass.{sheet-counts}
 
 -- ---- any list
 
 -- the cursor stands at row i of n rows, which follow `first` others, and no row before row i has a fault
-pub record Reached (s : List ℕ) (first n : ℕ) (f : ℕ → Fault) (c : Cursor) (i : ℕ) : Type 0 where
+pub record RowsReached (s : List ℕ) (first n : ℕ) (f : ℕ → Fault) (c : Cursor) (i : ℕ) : Type 0 where
   pub below : i ≤ n
   pub at : c ≡ cursorAt s (first + i)
   pub passed : anyBelow i (λ j. isFault (f j)) ≡ false
 
 module _ (s : List ℕ) (first n : ℕ) (f : ℕ → Fault) where
-  pub reached-first : (c : Cursor) → c ≡ cursorAt s first → Reached s first n f c 0
+  pub rows-first : (c : Cursor) → c ≡ cursorAt s first → RowsReached s first n f c 0
   unfolding anyBelow
-  reached-first c e = record { below = omega arith; at = rw add-zero e; passed = refl }
+  rows-first c e = record { below = omega arith; at = rw add-zero e; passed = refl }
 
-  pub reached-next : (c next : Cursor) (i : ℕ) → Reached s first n f c i → i < n → isFault (f i) ≡ false → next ≡ cursorAt s (c .row + 1)
-      → Reached s first n f next (i + 1)
-  reached-next c next i r l e q =
+  pub rows-next : (c next : Cursor) (i : ℕ) → RowsReached s first n f c i → i < n → isFault (f i) ≡ false → next ≡ cursorAt s (c .row + 1)
+      → RowsReached s first n f next (i + 1)
+  rows-next c next i r l e q =
       record { below = omega arith; at = rw (q, r .at, add-assoc); passed = rw (any-more, r .passed, e) }
 
-  pub reached-stop : (c : Cursor) (i : ℕ) → Reached s first n f c i → i < n → isFault (f i) ≡ true → firstFault first n f ≡ inRow (first + i + 1) (f i)
-  reached-stop c i r l t = fault-stop first n f i l (r .passed) t
+  pub rows-stop : (c : Cursor) (i : ℕ) → RowsReached s first n f c i → i < n → isFault (f i) ≡ true → firstFault first n f ≡ inRow (first + i + 1) (f i)
+  rows-stop c i r l t = fault-stop first n f i l (r .passed) t
 
-  pub reached-end : (c : Cursor) (i : ℕ) → Reached s first n f c i → n ≤ i → firstFault first n f ≡ noRefusal
-  reached-end c i r l = let b = r .below in let e : i ≡ n = omega arith in fault-end first n f (rw e at (r .passed))
+  pub rows-end : (c : Cursor) (i : ℕ) → RowsReached s first n f c i → n ≤ i → firstFault first n f ≡ noRefusal
+  rows-end c i r l = let b = r .below in let e : i ≡ n = omega arith in fault-end first n f (rw e at (r .passed))
 
 -- a pass that stopped has a refusal
 stopped : {A : Type 0} (row : ℕ) (f : Fault) → isFault f ≡ true → isRefusal (inRow row f) ≡ false → A
 stopped row f t e = absurd (false≢true (sym e ∙ row-refusal row f ∙ t))
 
-pub sheet-arch : (s : List ℕ) → sheetHeaders s .arch ≡ archOf (revisionOf (headOf s))
-unfolding sheetHeaders
-sheet-arch s = refl
-
 -- ---- the platform rows
-
-pub platforms-count : (s : List ℕ) → sheetHeaders s .platforms .count ≡ headOf s .platforms
-unfolding sheetHeaders
-platforms-count s = refl
 
 pub platform-header : (s : List ℕ) (i : ℕ) → sheetHeaders s .platforms .row i ≡ platformOf (rowKind s (0 + i)) (bodyOf s (0 + i))
 unfolding sheetHeaders
@@ -91,7 +83,7 @@ pub record PlatformsReached (s : List ℕ) (n : ℕ) (a : Arch) (c : Cursor) (p 
   pub readable : Readable limits s
   pub rows : n ≡ headOf s .platforms
   pub arch : a ≡ sheetHeaders s .arch
-  pub reached : Reached s 0 n (platformFaults (sheetHeaders s)) c i
+  pub reached : RowsReached s 0 n (platformFaults (sheetHeaders s)) c i
   pub holds : HoldsPlatforms p (before i (sheetHeaders s .platforms))
 
 module _ {s : List ℕ} {n : ℕ} {a : Arch} {c : Cursor} {p : Platforms} {i : ℕ} (r : PlatformsReached s n a c p i) where
@@ -120,17 +112,17 @@ module _ {s : List ℕ} {n : ℕ} {a : Arch} {c : Cursor} {p : Platforms} {i : �
         readable = r .readable;
         rows = r .rows;
         arch = r .arch;
-        reached = reached-next s 0 n (platformFaults (sheetHeaders s)) c next i (r .reached) l (rw (← step .told) e) at;
+        reached = rows-next s 0 n (platformFaults (sheetHeaders s)) c next i (r .reached) l (rw (← step .told) e) at;
         holds = step .next;
       }
 
   told-platforms : firstFault 0 (sheetHeaders s .platforms .count) (platformFaults (sheetHeaders s)) ≡ firstFault 0 n (platformFaults (sheetHeaders s))
-  told-platforms = rw (platforms-count s, ← r .rows)
+  told-platforms = rw (sheet-counts s .platforms, ← r .rows)
 
   pub platforms-stop : (f : Fault) (q : Platforms) → i < n → PlatformStepped (sheetHeaders s .arch) (sheetHeaders s .platforms) i f q → isFault f ≡ true
       → PlatformsPassed s (inRow (i + 1) f) q
   platforms-stop f q l step t =
-      let e : firstFault 0 n (platformFaults (sheetHeaders s)) ≡ inRow (i + 1) f = rw (reached-stop s 0 n (platformFaults (sheetHeaders s)) c i (r .reached) l (rw (← step .told) t), zero-add, step .told) in
+      let e : firstFault 0 n (platformFaults (sheetHeaders s)) ≡ inRow (i + 1) f = rw (rows-stop s 0 n (platformFaults (sheetHeaders s)) c i (r .reached) l (rw (← step .told) t), zero-add, step .told) in
       record { told = sym (platforms-first (sheetHeaders s) (inRow (i + 1) f) (told-platforms ∙ e) (rw row-refusal t)); holds = stopped (i + 1) f t }
 
   pub platforms-end : n ≤ i → PlatformsPassed s (inRow 0 (refuse (eqb n 0) (fault 15 0) noFault)) p
@@ -139,15 +131,11 @@ module _ {s : List ℕ} {n : ℕ} {a : Arch} {c : Cursor} {p : Platforms} {i : �
       let b = r .reached .below in
       let e : i ≡ n = omega arith in
       record {
-        told = rw (platforms-last (sheetHeaders s) (told-platforms ∙ reached-end s 0 n (platformFaults (sheetHeaders s)) c i (r .reached) l), platforms-count s, ← r .rows);
-        holds = λ _. rw (e ∙ r .rows ∙ sym (platforms-count s)) at (r .holds);
+        told = rw (platforms-last (sheetHeaders s) (told-platforms ∙ rows-end s 0 n (platformFaults (sheetHeaders s)) c i (r .reached) l), sheet-counts s .platforms, ← r .rows);
+        holds = λ _. rw (e ∙ r .rows ∙ sym (sheet-counts s .platforms)) at (r .holds);
       }
 
 -- ---- the initialization rows
-
-pub initializations-count : (s : List ℕ) → sheetHeaders s .initializations .count ≡ headOf s .initializations
-unfolding sheetHeaders
-initializations-count s = refl
 
 pub initialization-header : (s : List ℕ) (i : ℕ)
     → sheetHeaders s .initializations .row i ≡ initializationOf (rowKind s (headOf s .platforms + i)) (bodyOf s (headOf s .platforms + i))
@@ -166,7 +154,7 @@ pub record InitializationsReached (s : List ℕ) (p : Platforms) (first n : ℕ)
   pub first-row : first ≡ headOf s .platforms
   pub rows : n ≡ headOf s .initializations
   pub arch : a ≡ sheetHeaders s .arch
-  pub reached : Reached s first n (initializationFaults (sheetHeaders s)) c i
+  pub reached : RowsReached s first n (initializationFaults (sheetHeaders s)) c i
   pub holds : HoldsRegions q (before i (sheetHeaders s .initializations))
 
 module _ {s : List ℕ} {p : Platforms} {first n : ℕ} {a : Arch} {c : Cursor} {q : RelocRegions} {i : ℕ} (r : InitializationsReached s p first n a c q i) where
@@ -210,19 +198,19 @@ module _ {s : List ℕ} {p : Platforms} {first n : ℕ} {a : Arch} {c : Cursor} 
         first-row = r .first-row;
         rows = r .rows;
         arch = r .arch;
-        reached = reached-next s first n (initializationFaults (sheetHeaders s)) c d i (r .reached) l (rw (← step .told) e) at;
+        reached = rows-next s first n (initializationFaults (sheetHeaders s)) c d i (r .reached) l (rw (← step .told) e) at;
         holds = step .next;
       }
 
   told-initializations : initializationsRefusal (sheetHeaders s) ≡ firstFault first n (initializationFaults (sheetHeaders s))
-  told-initializations = initializations-first (sheetHeaders s) first n (r .first-row ∙ sym (platforms-count s)) (r .rows ∙ sym (initializations-count s))
+  told-initializations = initializations-first (sheetHeaders s) first n (r .first-row ∙ sym (sheet-counts s .platforms)) (r .rows ∙ sym (sheet-counts s .initializations))
 
   pub initializations-stop : (f : Fault) (next : RelocRegions) → i < n
       → InitializationStepped (sheetHeaders s .arch) (sheetHeaders s .platforms) (sheetHeaders s .initializations) i f next → isFault f ≡ true
       → InitializationsPassed s (inRow (first + i + 1) f) next
   initializations-stop f next l step t =
       record {
-        told = rw (told-initializations, reached-stop s first n (initializationFaults (sheetHeaders s)) c i (r .reached) l (rw (← step .told) t), step .told);
+        told = rw (told-initializations, rows-stop s first n (initializationFaults (sheetHeaders s)) c i (r .reached) l (rw (← step .told) t), step .told);
         holds = stopped (first + i + 1) f t;
       }
 
@@ -231,6 +219,6 @@ module _ {s : List ℕ} {p : Platforms} {first n : ℕ} {a : Arch} {c : Cursor} 
       let b = r .reached .below in
       let e : i ≡ n = omega arith in
       record {
-        told = rw (told-initializations, reached-end s first n (initializationFaults (sheetHeaders s)) c i (r .reached) l);
-        holds = λ _. rw (e ∙ r .rows ∙ sym (initializations-count s)) at (r .holds);
+        told = rw (told-initializations, rows-end s first n (initializationFaults (sheetHeaders s)) c i (r .reached) l);
+        holds = λ _. rw (e ∙ r .rows ∙ sym (sheet-counts s .initializations)) at (r .holds);
       }

@@ -9,7 +9,8 @@ use Rattle.headers.specs.Headers.{sheetHeaders}
 use Rattle.sheet.proofs.Readable.{readable-bounds}
 use Rattle.initializations.specs.Record.{InitializationStepped}
 use Rattle.initializations.proofs.RecordLaws.{holds-none}
-use Rattle.file.proofs.FirstPasses.{sheet-arch, InitializationsReached, reached-first, initialization-known, initialization-small, initialization-room, initialization-stepped, initialization-next, initializations-stop, initializations-end}
+use Rattle.file.proofs.DirectivePass.{sheet-counts}
+use Rattle.file.proofs.FirstPasses.{InitializationsReached, rows-first, initialization-known, initialization-small, initialization-room, initialization-stepped, initialization-next, initializations-stop, initializations-end}
 use Rattle.file.proofs.validate_initialization_headers.Statement.{statement}
 use Rattle.file.proofs.validate_initialization_headers.Tie as tie
 
@@ -46,8 +47,8 @@ loop-holds c =
       platforms = st .pre .2;
       first-row = rw (st .pre .1);
       rows = rw (st .pre .1);
-      arch = rw (c .before .before .arch .ensures, c .before .before .before .revision .ensures, st .pre .1, sheet-arch s);
-      reached = reached-first _ _ _ _ _ (c .before .cursor-at .ensures);
+      arch = rw (c .before .before .arch .ensures, c .before .before .before .revision .ensures, st .pre .1) (sheet-counts s .arch);
+      reached = rows-first _ _ _ _ _ (c .before .cursor-at .ensures);
       holds = holds-none (c .new .result) (sheetHeaders s .initializations) (c .new .ensures);
     }
 

@@ -8,18 +8,19 @@ use Rattle.igvm_defs.specs.Refusals.{isFault}
 use Rattle.headers.specs.Headers.{sheetHeaders}
 use Rattle.platforms.specs.Record.{PlatformStepped}
 use Rattle.sheet.proofs.Readable.{offset-first, readable-bounds}
-use Rattle.file.proofs.FirstPasses.{sheet-arch, PlatformsReached, reached-first, platform-known, platform-room, platform-stepped, platform-next, platforms-stop, platforms-end}
+use Rattle.file.proofs.DirectivePass.{sheet-counts}
+use Rattle.file.proofs.FirstPasses.{PlatformsReached, rows-first, platform-known, platform-room, platform-stepped, platform-next, platforms-stop, platforms-end}
 use Rattle.file.proofs.validate_platform_headers.Statement.{statement}
 use Rattle.file.proofs.validate_platform_headers.Tie as tie
 
 abbrev Inv-loop : tie.InvT-loop
-Inv-loop s n arch c₀ platforms₀ i₀ c platforms i = PlatformsReached s n arch c platforms i
+Inv-loop s count arch c₀ platforms₀ i₀ c platforms i = PlatformsReached s count arch c platforms i
 
 abbrev μ-loop : tie.MeasureT-loop
-μ-loop s n arch c₀ platforms₀ i₀ c platforms i = n - i
+μ-loop s count arch c₀ platforms₀ i₀ c platforms i = count - i
 
-cast-n : tie.Need-cast-n Inv-loop μ-loop
-cast-n c = search needs
+cast-count : tie.Need-cast-count Inv-loop μ-loop
+cast-count c = search needs
 
 revision-requires : tie.Need-revision-requires Inv-loop μ-loop
 revision-requires c κs = search needs
@@ -46,8 +47,8 @@ loop-holds c =
     record {
       readable = st .pre .0;
       rows = rw (st .pre .1);
-      arch = rw (c .before .before .before .arch .ensures, c .before .before .before .before .revision .ensures, st .pre .1, sheet-arch s);
-      reached = reached-first _ _ _ _ _ (rw (c .before .new .ensures, c .before .before .rows .ensures, st .pre .1, offset-first s));
+      arch = rw (c .before .before .before .arch .ensures, c .before .before .before .before .revision .ensures, st .pre .1) (sheet-counts s .arch);
+      reached = rows-first _ _ _ _ _ (rw (c .before .new .ensures, c .before .before .rows .ensures, st .pre .1, offset-first s));
       holds = c .new2 .ensures (sheetHeaders s .platforms);
     }
 
@@ -115,7 +116,7 @@ validate-platform-headers-spec =
     (tie.spec
     Inv-loop
     μ-loop
-    cast-n
+    cast-count
     revision-requires
     arch-requires
     rows-requires
