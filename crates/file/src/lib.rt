@@ -22,6 +22,7 @@ use igvm_defs::Fault;
 use igvm_defs::Refusal;
 use initializations::RelocRegions;
 use platforms::Platforms;
+use rules::Region;
 use sheet::Cursor;
 use sheet::SheetHead;
 
@@ -139,7 +140,15 @@ fn no_matching_vp_context(regions: RelocRegions, contexts: [u32; 3]) -> bool
     let mut i = 0;
     let mut found = false;
     while i < n {
-        found = found | directives::lacks_context(contexts, regions.entry(i));
+        let r = Region {
+            mask: regions.mask[i],
+            gpa: regions.gpa[i],
+            size: regions.size[i],
+            vp_index: regions.vp_index[i],
+            vtl: regions.vtl[i],
+            page_table: regions.page_table[i],
+        };
+        found = found | directives::lacks_context(contexts, r);
         i += 1;
     }
     found
