@@ -9,7 +9,7 @@ use Rattle.answers.specs.declared.Verdict.{Verdict}
 -- the last k digits of a number at most, the most significant first, with no zero in front
 unfoldable pub digitsIn : ℕ → ℕ → List ℕ
 digitsIn zero n = []
-digitsIn (suc k) n = cond (ltb n 10) (48 + n ∷ []) (digitsIn k (n / 10) ++ (48 + n % 10 ∷ []))
+digitsIn (suc k) n = cond (ltb n 10) ((48 + n) ∷ []) (digitsIn k (n / 10) ++ ((48 + n % 10) ∷ []))
 
 -- a number below 2^64 has at most 20 digits
 abbrev pub decimal : ℕ → List ℕ

@@ -1,9 +1,9 @@
 // The line that `admit` writes of a verdict.
 ghost use mathlib.Core.Path.{_≡_};
-ghost use mathlib.Core.List.{List, [], _∷_, _++_};
-ghost use Prim.Native.Nat.{ℕ, _+_, _≤_};
-ghost use lib.ListN.{length, take};
-ghost use Rattle.line.specs.Line.{digitsIn, decimal, acceptedLine, refusedLine, lineOf};
+ghost use mathlib.Core.List.{[], _∷_, _++_};
+ghost use Prim.Native.Nat.{_+_, _≤_};
+ghost use lib.ListN.{length};
+ghost use Rattle.line.specs.Line.{digitsIn, decimal, newline, acceptedLine, refusedLine, lineOf};
 ghost use Rattle.line.specs.Text.{textOf, Extends};
 use answers::Verdict;
 
@@ -61,46 +61,60 @@ impl Line {
         self.digits(k - 1, n / 10).byte(48 + (n % 10) as u8)
     }
 
-    fn decimal(self, n: u64) -> Line
-        requires { ⌜ self .len + 20 ≤ 96 ⌝ }
-        ensures { λ r. ⌜ Extends self (decimal n) r ⌝ }
+    // The words, then the number in decimal.
+    fn number_after(self, words: &[u8], n: u64) -> Line
+        requires { ⌜ self .len + length (now words) + 20 ≤ 96 ⌝ }
+        ensures { λ r. ⌜ (textOf r ≡ textOf self ++ now (words .entry) ++ decimal n) × (r .len ≤ self .len + length (now (words .entry)) + 20) ⌝ }
     {
-        self.digits(20, n)
+        self.text(words).digits(20, n)
     }
+}
+
+// A line of three numbers, each with words before it.
+fn numbers_line(first: &[u8], a: u64, second: &[u8], b: u64, third: &[u8], c: u64) -> Line
+    requires { ⌜ (length (now first) ≤ 9) × (length (now second) ≤ 9) × (length (now third) ≤ 9) ⌝ }
+    ensures { λ r. ⌜ (textOf r ≡ now (first .entry) ++ decimal a ++ now (second .entry) ++ decimal b ++ now (third .entry) ++ decimal c ++ newline) × (r .len ≤ 96) ⌝ }
+{
+    Line::new()
+        .number_after(first, a)
+        .number_after(second, b)
+        .number_after(third, c)
+        .byte(10)
 }
 
 fn accepted_line(v: Verdict) -> Line
     ensures { λ r. ⌜ (textOf r ≡ acceptedLine v) × (r .len ≤ 96) ⌝ }
 {
-    Line::new()
-        .text(b"accepted ")
-        .decimal(v.platforms)
-        .text(b" ")
-        .decimal(v.initializations)
-        .text(b" ")
-        .decimal(v.directives)
-        .text(b"\n")
+    numbers_line(
+        b"accepted ",
+        v.platforms,
+        b" ",
+        v.initializations,
+        b" ",
+        v.directives,
+    )
 }
 
 fn refused_line(v: Verdict) -> Line
     ensures { λ r. ⌜ (textOf r ≡ refusedLine v) × (r .len ≤ 96) ⌝ }
 {
     let refusal = v.refusal;
-    Line::new()
-        .text(b"refused ")
-        .decimal(refusal.number)
-        .text(b" row ")
-        .decimal(refusal.row)
-        .text(b" detail ")
-        .decimal(refusal.detail)
-        .text(b"\n")
+    numbers_line(
+        b"refused ",
+        refusal.number,
+        b" row ",
+        refusal.row,
+        b" detail ",
+        refusal.detail,
+    )
 }
 
 // The line of a verdict.
 pub fn line_of(v: Verdict) -> Line
     ensures { λ r. ⌜ (textOf r ≡ lineOf v) × (r .len ≤ 96) ⌝ }
 {
-    if v.refusal.is_refusal() {
+    let refusal = v.refusal;
+    if refusal.is_refusal() {
         return refused_line(v);
     }
     accepted_line(v)

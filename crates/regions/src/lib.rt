@@ -221,12 +221,12 @@ pub fn page_table_at(s: &[u8], head: SheetHead, given: u32) -> FoundTable
         found: false,
         table: NO_PAGE_TABLE,
     };
-    let mut seen: u64 = 0;
+    let mut tables: u64 = 0;
     let mut i = 0;
     while i < n {
         let h = headers::initialization_at(s, c);
-        found = table_step(given, h, seen == 0, found);
-        seen += one_if(is_page_table(given, h), 1);
+        found = table_step(given, h, tables == 0, found);
+        tables += one_if(is_page_table(given, h), 1);
         c = c.next(s);
         i += 1;
     }

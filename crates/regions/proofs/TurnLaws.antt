@@ -1,0 +1,63 @@
+-- A loop over the initialization rows of a readable sheet: where it starts, what a turn of it knows, and where it ends.
+-- Assumes nothing.
+use mathlib.Core.Path.{_≡_, refl}
+use mathlib.Core.List.{List}
+use Prim.Native.Nat.{ℕ, _+_, _<_, _≤_}
+use native.Mathlib.Nat.{add-zero}
+use native.Mathlib.Omega.{arith}
+use Rattle.rows.specs.Rows.{before}
+use Rattle.igvm_defs.specs.Kinds.{initializationList, kindOf}
+use Rattle.sheet.specs.declared.Cursor.{Cursor}
+use Rattle.sheet.specs.declared.SheetHead.{SheetHead}
+use Rattle.sheet.specs.Head.{limits, headOf, rowCount}
+use Rattle.sheet.specs.Table.{rowKind, bodyOf}
+use Rattle.sheet.specs.Read.{Readable}
+use Rattle.sheet.specs.Walk.{cursorAt, AtRow}
+use Rattle.sheet.proofs.Readable.{readable-bounds, at-row, initialization-row}
+use Rattle.initialization_header.specs.Initializations.{initializationOf}
+use Rattle.headers.specs.Headers.{sheetHeaders}
+use Rattle.answers.specs.Relocations.{sheetInitializations}
+
+-- the cursor stands at initialization row i
+pub record AtInitialization (s : List ℕ) (c : Cursor) (i : ℕ) : Type 0 where
+  pub place : AtRow s c
+  pub list : kindOf (rowKind s (c .row)) .list ≡ initializationList
+  pub header : initializationOf (rowKind s (c .row)) (bodyOf s (c .row)) ≡ sheetInitializations s .row i
+  pub next : cursorAt s (c .row + 1) ≡ cursorAt s (headOf s .platforms + (i + 1))
+  pub few : i < 64
+
+row-header : (s : List ℕ) (i : ℕ)
+    → initializationOf (rowKind s (headOf s .platforms + i)) (bodyOf s (headOf s .platforms + i)) ≡ sheetInitializations s .row i
+unfolding sheetHeaders
+row-header s i = refl
+
+module _ (s : List ℕ) (head : SheetHead) (e : head ≡ headOf s) where
+  -- the first row
+  pub first-row : cursorAt s (head .platforms) ≡ cursorAt s (headOf s .platforms + 0)
+  first-row = rw (e, add-zero)
+
+  pub first-within : head .platforms ≤ rowCount (headOf s)
+  first-within = rw e (omega arith)
+
+  -- a turn
+  pub at-initialization : Readable limits s → (c : Cursor) (i : ℕ) → c ≡ cursorAt s (headOf s .platforms + i) → i < head .initializations
+      → AtInitialization s c i
+  at-initialization ok c i p l =
+      let h : i < headOf s .initializations = rw (← e) l in
+      let b = readable-bounds s ok in
+      let z : headOf s .platforms + i + 1 ≡ headOf s .platforms + (i + 1) = omega arith in
+      rw p (record {
+        place = at-row limits s ok (headOf s .platforms + i) (omega arith);
+        list = initialization-row limits s ok (headOf s .platforms + i) (omega arith) (omega arith);
+        header = row-header s i;
+        next = rw z;
+        few = omega arith;
+      })
+
+  -- the end
+  pub rows-few : Readable limits s → head .initializations ≤ 64
+  rows-few ok = rw e (readable-bounds s ok .initializations)
+
+  pub all-rows : (i : ℕ) → i ≡ head .initializations → before i (sheetInitializations s) ≡ sheetInitializations s
+  unfolding sheetHeaders
+  all-rows i h = rw (h, e)
