@@ -36,12 +36,12 @@ fn validate_platform_headers(s: &[u8], head: SheetHead) -> PlatformsPass
     requires { ⌜ Readable limits (now s) × (head ≡ headOf (now s)) ⌝ }
     ensures { λ r. ⌜ PlatformsPassed (now (s .entry)) (r .refusal) (r .platforms) ⌝ }
 {
-    let n = head.platforms as usize;
+    let count = head.platforms as usize;
     let arch = head.revision().arch();
     let mut c = Cursor::new(head.rows());
     let mut platforms = Platforms::new();
     let mut i = 0;
-    while i < n {
+    while i < count {
         let step = platforms.step(arch, headers::platform_at(s, c));
         let fault = step.fault;
         let next = step.platforms;
@@ -55,7 +55,7 @@ fn validate_platform_headers(s: &[u8], head: SheetHead) -> PlatformsPass
         c = c.next(s);
         i += 1;
     }
-    let refusal = igvm_defs::refuse(n == 0, 15, 0, Fault::NONE).in_row(0);
+    let refusal = igvm_defs::refuse(count == 0, 15, 0, Fault::NONE).in_row(0);
     PlatformsPass { refusal, platforms }
 }
 
