@@ -24,12 +24,17 @@ pub record AtInitialization (s : List ℕ) (c : Cursor) (i : ℕ) : Type 0 where
   pub list : kindOf (rowKind s (c .row)) .list ≡ initializationList
   pub header : initializationOf (rowKind s (c .row)) (bodyOf s (c .row)) ≡ sheetInitializations s .row i
   pub next : cursorAt s (c .row + 1) ≡ cursorAt s (headOf s .platforms + (i + 1))
+  pub within : i < sheetInitializations s .count
   pub few : i < 64
 
 row-header : (s : List ℕ) (i : ℕ)
     → initializationOf (rowKind s (headOf s .platforms + i)) (bodyOf s (headOf s .platforms + i)) ≡ sheetInitializations s .row i
 unfolding sheetHeaders
 row-header s i = refl
+
+row-count : (s : List ℕ) → sheetInitializations s .count ≡ headOf s .initializations
+unfolding sheetHeaders
+row-count s = refl
 
 module _ (s : List ℕ) (head : SheetHead) (e : head ≡ headOf s) where
   -- the first row
@@ -51,6 +56,7 @@ module _ (s : List ℕ) (head : SheetHead) (e : head ≡ headOf s) where
         list = initialization-row limits s ok (headOf s .platforms + i) (omega arith) (omega arith);
         header = row-header s i;
         next = rw z;
+        within = rw row-count h;
         few = omega arith;
       })
 
