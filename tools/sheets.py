@@ -8,10 +8,10 @@ other numbers in its head. A is B on AArch64. What can't be said in this way cha
 
 The line beside a sample is written by hand from the paper. `--check` holds it against tools/model.py.
 
-    tools/sheets.py --check              every line against the model, and the files of the crates against the samples
+    tools/sheets.py --check              every line against the model, and the files of crates/admit_sheets against the samples
     tools/sheets.py --list               each sample's name, line and description
     tools/sheets.py --write DIR NAME..   write these samples (no NAME: all of up to 65,536 bytes) into DIR, and print 'name: line' for each
-    tools/sheets.py --gate CRATE [DIR]   write args, data/ and stdout of the program CRATE (into DIR, else into crates/CRATE)
+    tools/sheets.py --gate               write args, data/ and stdout of the program crates/admit_sheets
 """
 
 import sys
@@ -532,9 +532,10 @@ refused("03-bytes", 0, 0, "B of 16,777,217 bytes", lambda: of_length(LIMIT + 1))
 refused("02-before-03-bytes", 0, 0, "16,777,217 zero bytes", lambda: bytes(LIMIT + 1))
 
 
-# ---- the programs of the gate
+# ---- the program of the gate
 
 ADMIT_BYTES = 65536
+CRATE = Path(__file__).resolve().parent.parent / "crates" / "admit_sheets"
 
 
 def small():
@@ -546,35 +547,15 @@ def named(names):
     return [by_name[name] for name in names]
 
 
-def read_line(sample):
-    """What read_sheets writes: refusals 1 to 7, else readable."""
-    words = sample.line.split()
-    return sample.line if words[0] == "refused" and int(words[1]) <= 7 else "readable"
-
-
-READ = [
-    "b", "01-empty", "01-table", "01-body-2", "02-revision-0", "03-65-initializations", "04-kind-0", "05-kind-18-long", "05-vtl-18",
-    "06-byte", "07-8192", "08-mask-3",
-]
-GATE = {
-    "read_sheets": (lambda: named(READ), read_line),
-    "admit_sheets": (small, lambda sample: sample.line),
-}
-
-
-def gate_files(crate):
+def gate_files():
     """The files of the crate's folder by name. The last argument names no file."""
-    samples, line = GATE[crate]
-    samples = samples()
+    samples = small()
     names = [sample.name for sample in samples] + ["missing"]
-    lines = [line(sample) for sample in samples] + ["can't be opened"]
+    lines = [sample.line for sample in samples] + ["can't be opened"]
     files = {"data/" + sample.name: sample.bytes() for sample in samples}
     files["args"] = "".join(name + "\n" for name in names).encode()
     files["stdout"] = "".join(f"{name}: {text}\n" for name, text in zip(names, lines)).encode()
     return files
-
-
-CRATES = Path(__file__).resolve().parent.parent / "crates"
 
 
 def check():
@@ -588,15 +569,12 @@ def check():
     for name in sorted({name for name in names if names.count(name) > 1}):
         wrong += 1
         print(f"{name}: two samples of this name")
-    for crate in GATE:
-        folder = CRATES / crate
-        if folder.exists():
-            files = gate_files(crate)
-            there = {"data/" + path.name for path in (folder / "data").iterdir()} | {"args", "stdout"}
-            for name in sorted(there | set(files)):
-                if name not in files or not (folder / name).exists() or (folder / name).read_bytes() != files[name]:
-                    wrong += 1
-                    print(f"{folder / name}: not what --gate writes")
+    files = gate_files()
+    there = {"data/" + path.name for path in (CRATE / "data").iterdir()} | {"args", "stdout"}
+    for name in sorted(there | set(files)):
+        if name not in files or not (CRATE / name).exists() or (CRATE / name).read_bytes() != files[name]:
+            wrong += 1
+            print(f"{CRATE / name}: not what --gate writes")
     print(f"{len(SAMPLES)} samples, {wrong} wrong")
     return wrong != 0
 
@@ -608,10 +586,10 @@ def write(folder, names):
         print(f"{sample.name}: {sample.line}")
 
 
-def gate(crate, folder):
-    for name, content in gate_files(crate).items():
-        (folder / name).parent.mkdir(parents=True, exist_ok=True)
-        (folder / name).write_bytes(content)
+def gate():
+    for name, content in gate_files().items():
+        (CRATE / name).parent.mkdir(parents=True, exist_ok=True)
+        (CRATE / name).write_bytes(content)
 
 
 def main(words):
@@ -623,8 +601,8 @@ def main(words):
                 print(f"{sample.name}: {sample.line} ({sample.what})")
         case ["--write", folder, *names]:
             write(Path(folder), names)
-        case ["--gate", crate, *folder] if crate in GATE and len(folder) <= 1:
-            gate(crate, Path(*folder) if folder else CRATES / crate)
+        case ["--gate"]:
+            gate()
         case _:
             print(__doc__)
             return 2

@@ -3,7 +3,7 @@ ghost use mathlib.Core.Path.{_≡_};
 ghost use mathlib.Core.Bool.{not, _&&_, _||_};
 ghost use lib.Dec.{eqb, ltb};
 ghost use lib.ListN.{getD};
-ghost use Prim.Native.Nat.{ℕ, _+_, _<_, _≤_};
+ghost use Prim.Native.Nat.{ℕ, _+_};
 ghost use Rattle.rows.specs.Rows.{Rows, before};
 ghost use Rattle.initialization_header.specs.declared.IgvmInitializationHeader.{IgvmInitializationHeader};
 ghost use Rattle.directive_header.specs.declared.IgvmDirectiveHeader.{IgvmDirectiveHeader};
@@ -102,27 +102,19 @@ pub fn validate(h: IgvmDirectiveHeader) -> Fault
 fn arch_fault(arch: Arch, h: IgvmDirectiveHeader, later: Fault) -> Fault
     ensures { λ r. ⌜ r ≡ refuse (wrongArch arch h) (fault 24 (kindNumber h)) later ⌝ }
 {
+    let x64 = arch.is_x64();
+    let aarch64 = arch.is_aarch64();
     match h {
-        IgvmDirectiveHeader::X64NativeVpContext { .. } => igvm_defs::refuse(
-            !arch.is_x64(),
-            24,
-            46,
-            later,
-        ),
-        IgvmDirectiveHeader::X64VbsVpContext { .. } => igvm_defs::refuse(
-            !arch.is_x64(),
-            24,
-            47,
-            later,
-        ),
+        IgvmDirectiveHeader::X64NativeVpContext { .. } => igvm_defs::refuse(!x64, 24, 46, later),
+        IgvmDirectiveHeader::X64VbsVpContext { .. } => igvm_defs::refuse(!x64, 24, 47, later),
         IgvmDirectiveHeader::AArch64VbsVpContext { .. } => igvm_defs::refuse(
-            !arch.is_aarch64(),
+            !aarch64,
             24,
             48,
             later,
         ),
         IgvmDirectiveHeader::AArch64CcaVpContext { .. } => igvm_defs::refuse(
-            !arch.is_aarch64(),
+            !aarch64,
             24,
             49,
             later,

@@ -1,8 +1,10 @@
 -- What the passes over the three lists answer, of a readable sheet.
-use Prim.Native.Nat.{ℕ}
+use Prim.Native.Nat.{ℕ, _<_}
 use mathlib.Core.Bool.{false}
 use mathlib.Core.List.{List}
 use mathlib.Core.Path.{_≡_}
+use lib.ListN.{length, getD}
+use Rattle.rows.specs.Rows.{Rows}
 use Rattle.igvm_defs.specs.declared.Refusal.{Refusal}
 use Rattle.igvm_defs.specs.Refusals.{isRefusal}
 use Rattle.headers.specs.Headers.{sheetHeaders}
@@ -10,6 +12,9 @@ use Rattle.platforms.specs.declared.Platforms.{Platforms}
 use Rattle.platforms.specs.Record.{HoldsPlatforms}
 use Rattle.initializations.specs.declared.RelocRegions.{RelocRegions}
 use Rattle.initializations.specs.Record.{HoldsRegions}
+use Rattle.directive_header.specs.declared.IgvmDirectiveHeader.{IgvmDirectiveHeader}
+use Rattle.directive_header.specs.Fields.{areaOf}
+use Rattle.directives.specs.Record.{howOf, areaNumber}
 use Rattle.rules.specs.Verdict.{platformsRefusal, initializationsRefusal}
 
 -- the platform rows' refusal; where there is none, the record holds the platform rows
@@ -21,3 +26,9 @@ pub record PlatformsPassed (s : List ℕ) (refusal : Refusal) (r : Platforms) : 
 pub record InitializationsPassed (s : List ℕ) (refusal : Refusal) (r : RelocRegions) : Type 0 where
   pub told : refusal ≡ initializationsRefusal (sheetHeaders s)
   pub holds : isRefusal refusal ≡ false → HoldsRegions r (sheetHeaders s .initializations)
+
+-- the arrays have the area that each of the first n rows names, and how it names it
+pub record AreasFilled (xs : Rows IgvmDirectiveHeader) (n : ℕ) (area how : List ℕ) : Type 0 where
+  pub areas : length area ≡ 1024
+  pub hows : length how ≡ 1024
+  pub same : (j : ℕ) → j < n → (getD area j 0 ≡ areaNumber (areaOf (xs .row j))) × (getD how j 0 ≡ howOf (xs .row j))

@@ -1,29 +1,26 @@
 // The verdict: the passes over platform, initialization and directive rows, and IgvmFile::new, from any byte string.
 ghost use mathlib.Core.Path.{_≡_};
-ghost use Prim.Native.Nat.{ℕ, _+_, _≤_, _<_};
-ghost use lib.ListN.{length, getD};
-ghost use Rattle.directive_header.specs.Fields.{areaOf};
+ghost use Prim.Native.Nat.{_≤_};
+ghost use lib.ListN.{length};
 ghost use Rattle.sheet.specs.Head.{limits, headOf};
 ghost use Rattle.sheet.specs.Read.{Readable};
-ghost use Rattle.sheet.specs.Walk.{cursorAt};
 ghost use Rattle.headers.specs.Headers.{sheetHeaders};
-ghost use Rattle.areas.specs.Areas.{firstBad};
 ghost use Rattle.platforms.specs.Record.{HoldsPlatforms};
 ghost use Rattle.initialization_header.specs.declared.IgvmInitializationHeader.{IgvmInitializationHeader};
 ghost use Rattle.rows.specs.Rows.{Rows};
 ghost use Rattle.rules.specs.Directives.{insideTable};
 ghost use Rattle.initializations.specs.Record.{anyRegion, HoldsRegions};
-ghost use Rattle.directives.specs.Record.{howOf, areaNumber, lacksContext};
+ghost use Rattle.directives.specs.Record.{lacksContext, firstBadArea};
 ghost use Rattle.rules.specs.Verdict.{directivesRefusal};
 ghost use Rattle.answers.specs.Verdict.{verdictOf};
-ghost use Rattle.directives.specs.Record.{firstBadArea};
-ghost use Rattle.file.specs.Passes.{PlatformsPassed, InitializationsPassed};
+ghost use Rattle.file.specs.Passes.{PlatformsPassed, InitializationsPassed, AreasFilled};
 use answers::Verdict;
 use directive_header::IgvmDirectiveHeader;
 use igvm_defs::Fault;
 use igvm_defs::Refusal;
 use initializations::RelocRegions;
 use platforms::Platforms;
+use rules::Region;
 use sheet::Cursor;
 use sheet::SheetHead;
 
@@ -39,12 +36,12 @@ fn validate_platform_headers(s: &[u8], head: SheetHead) -> PlatformsPass
     requires { ⌜ Readable limits (now s) × (head ≡ headOf (now s)) ⌝ }
     ensures { λ r. ⌜ PlatformsPassed (now (s .entry)) (r .refusal) (r .platforms) ⌝ }
 {
-    let n = head.platforms as usize;
+    let count = head.platforms as usize;
     let arch = head.revision().arch();
     let mut c = Cursor::new(head.rows());
     let mut platforms = Platforms::new();
     let mut i = 0;
-    while i < n {
+    while i < count {
         let step = platforms.step(arch, headers::platform_at(s, c));
         let fault = step.fault;
         let next = step.platforms;
@@ -58,7 +55,7 @@ fn validate_platform_headers(s: &[u8], head: SheetHead) -> PlatformsPass
         c = c.next(s);
         i += 1;
     }
-    let refusal = igvm_defs::refuse(n == 0, 15, 0, Fault::NONE).in_row(0);
+    let refusal = igvm_defs::refuse(count == 0, 15, 0, Fault::NONE).in_row(0);
     PlatformsPass { refusal, platforms }
 }
 
@@ -103,16 +100,13 @@ fn validate_initialization_headers(
 }
 
 // How each directive row names an area, and which.
-fn fill_areas(s: &[u8], head: SheetHead, area: &mut [u32], how: &mut [u8])
-    requires { ⌜ Readable limits (now s) × (head ≡ headOf (now s)) × (length (now area) ≡ headOf (now s) .directives) × (length (now how) ≡ headOf (now s) .directives) ⌝ }
-    ensures { λ _. ⌜ (length (now (area .exit)) ≡ headOf (now (s .entry)) .directives) × (length (now (how .exit)) ≡ headOf (now (s .entry)) .directives) ⌝ }
-    ensures { λ _. ⌜ ((j : ℕ) → j < headOf (now (s .entry)) .directives → (getD (now (area .exit)) j 0 ≡ areaNumber (areaOf (sheetHeaders (now (s .entry)) .directives .row j))) × (getD (now (how .exit)) j 0 ≡ howOf (sheetHeaders (now (s .entry)) .directives .row j))) ⌝ }
+fn fill_areas(s: &[u8], head: SheetHead, area: &mut [u32; 1024], how: &mut [u8; 1024])
+    requires { ⌜ Readable limits (now s) × (head ≡ headOf (now s)) × (length (now area) ≡ 1024) × (length (now how) ≡ 1024) ⌝ }
+    ensures { λ _. ⌜ AreasFilled (sheetHeaders (now (s .entry)) .directives) (headOf (now (s .entry)) .directives) (now (area .exit)) (now (how .exit)) ⌝ }
 {
     let n = head.directives as usize;
-    let mut c = sheet::cursor_at(
-        s,
-        (head.platforms as usize) + (head.initializations as usize),
-    );
+    let first = (head.platforms as usize) + (head.initializations as usize);
+    let mut c = sheet::cursor_at(s, first);
     let mut i = 0;
     while i < n {
         let name = directives::naming(headers::directive_at(s, c));
@@ -131,7 +125,7 @@ fn first_bad_area(s: &[u8], head: SheetHead) -> usize
     let n = head.directives as usize;
     let mut area: [u32; 1024] = [0; 1024];
     let mut how: [u8; 1024] = [0; 1024];
-    fill_areas(s, head, &mut area[..n], &mut how[..n]);
+    fill_areas(s, head, &mut area, &mut how);
     areas::first_bad(&area[..n], &how[..n])
 }
 
@@ -144,7 +138,15 @@ fn no_matching_vp_context(regions: RelocRegions, contexts: [u32; 3]) -> bool
     let mut i = 0;
     let mut found = false;
     while i < n {
-        found = found | directives::lacks_context(contexts, regions.entry(i));
+        let r = Region {
+            mask: regions.mask[i],
+            gpa: regions.gpa[i],
+            size: regions.size[i],
+            vp_index: regions.vp_index[i],
+            vtl: regions.vtl[i],
+            page_table: regions.page_table[i],
+        };
+        found = found | directives::lacks_context(contexts, r);
         i += 1;
     }
     found

@@ -18,7 +18,8 @@ pub fn platform_at(s: &[u8], c: Cursor) -> IgvmPlatformHeader
     requires { ⌜ kindOf (rowKind (now s) (c .row)) .list ≡ platformList ⌝ }
     ensures { λ r. ⌜ r ≡ platformOf (rowKind (now (s .entry)) (c .row)) (bodyOf (now (s .entry)) (c .row)) ⌝ }
 {
-    platform_header::decode(c.kind(s), c.body(s))
+    let r = reader::read_row(s, c.row, c.at);
+    platform_header::decode(r.what.kind, reader::body_of(s, c.row, c.at))
 }
 
 pub fn initialization_at(s: &[u8], c: Cursor) -> IgvmInitializationHeader

@@ -5,85 +5,13 @@ ghost use Rattle.sheet.specs.Head.{limits};
 ghost use Rattle.answers.specs.Verdict.{verdictOf};
 ghost use Rattle.answers.specs.Relocations.{relocationsOf, wordsAfter, baseCheckOf, containsOf};
 ghost use Rattle.answers.specs.Numbers.{numberOf, verdictNumbers, relocationNumbers, checkNumbers};
-use answers::Checked;
-use answers::Relocations;
-use answers::Verdict;
-
-fn verdict_number(v: Verdict, which: u32) -> u64
-    ensures { λ r. ⌜ r ≡ numberOf which (verdictNumbers v) ⌝ }
-{
-    let refusal = v.refusal;
-    let numbers = [
-        refusal.number,
-        refusal.row,
-        refusal.detail,
-        v.platforms,
-        v.initializations,
-        v.directives,
-    ];
-    if which < 6 {
-        let i = which as usize;
-        return numbers[i];
-    }
-    0
-}
-
-fn number_if(test: bool) -> u64
-    ensures { λ r. ⌜ r ≡ cond test 1 0 ⌝ }
-{
-    if test {
-        return 1;
-    }
-    0
-}
-
-fn relocation_number(a: Relocations, which: u32) -> u64
-    ensures { λ r. ⌜ r ≡ numberOf which (relocationNumbers a) ⌝ }
-{
-    let refusal = a.refusal;
-    let t = a.page_table;
-    let numbers = [
-        refusal.number,
-        refusal.row,
-        refusal.detail,
-        a.count,
-        number_if(a.has_page_table),
-        t.gpa,
-        t.size,
-        t.used_size,
-        t.vp_index,
-        t.vtl,
-    ];
-    if which < 10 {
-        let i = which as usize;
-        return numbers[i];
-    }
-    0
-}
-
-fn check_number(a: Checked, which: u32) -> u64
-    ensures { λ r. ⌜ r ≡ numberOf which (checkNumbers a) ⌝ }
-{
-    let refusal = a.refusal;
-    let numbers = [
-        refusal.number,
-        refusal.row,
-        refusal.detail,
-        number_if(a.holds),
-    ];
-    if which < 4 {
-        let i = which as usize;
-        return numbers[i];
-    }
-    0
-}
 
 // 0 number, 1 row, 2 detail, 3 platform rows, 4 initialization rows, 5 directive rows.
 #[no_mangle]
 pub extern "C" fn igvm_verdict(sheet: &[u8], which: u32) -> u64
     ensures { λ r. ⌜ r ≡ numberOf which (verdictNumbers (verdictOf limits (now (sheet .entry)))) ⌝ }
 {
-    verdict_number(file::IgvmFile::new(sheet).verdict, which)
+    numbers::verdict_number(file::IgvmFile::new(sheet).verdict, which)
 }
 
 // 0 number, 1 row, 2 detail, 3 count, 4 page table (1 or 0), 5 gpa, 6 size, 7 used size, 8 VP index, 9 VTL. The lent bytes take the regions' words.
@@ -92,7 +20,7 @@ pub extern "C" fn igvm_relocations(sheet: &[u8], mask: u32, words: &mut [u8], wh
     ensures { λ r. ⌜ r ≡ numberOf which (relocationNumbers (relocationsOf limits (now (sheet .entry)) mask (length (now (words .entry))))) ⌝ }
     ensures { λ _. ⌜ now (words .exit) ≡ wordsAfter limits (now (sheet .entry)) mask (now (words .entry)) ⌝ }
 {
-    relocation_number(relocations::relocations(sheet, mask, words), which)
+    numbers::relocation_number(relocations::relocations(sheet, mask, words), which)
 }
 
 // 0 number, 1 row, 2 detail, 3 valid (1 or 0).
@@ -106,7 +34,7 @@ pub extern "C" fn igvm_relocation_base_valid(
 ) -> u64
     ensures { λ r. ⌜ r ≡ numberOf which (checkNumbers (baseCheckOf limits (now (sheet .entry)) mask region base)) ⌝ }
 {
-    check_number(
+    numbers::check_number(
         relocations::relocation_base_valid(sheet, mask, region, base),
         which,
     )
@@ -117,5 +45,5 @@ pub extern "C" fn igvm_relocation_base_valid(
 pub extern "C" fn igvm_contains(sheet: &[u8], mask: u32, region: u64, gpa: u64, which: u32) -> u64
     ensures { λ r. ⌜ r ≡ numberOf which (checkNumbers (containsOf limits (now (sheet .entry)) mask region gpa)) ⌝ }
 {
-    check_number(relocations::contains(sheet, mask, region, gpa), which)
+    numbers::check_number(relocations::contains(sheet, mask, region, gpa), which)
 }

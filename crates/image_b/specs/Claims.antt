@@ -41,7 +41,7 @@ vp v = put 2 101 v
 abbrev pub part : ℕ → ℕ → List ℕ → List ℕ
 part from to s = drop from (take to s)
 
--- Row 2 twice, the second time with this gpa: 2 initialization rows; the table's line of row 2 and the body of row 2 (bytes 24 to 32 and 56 to 104) once more.
+-- Row 2 twice, the second time with this gpa: 2 initialization rows, and bytes 24 to 32 (the table's line of row 2) and 56 to 104 (its body) once more.
 abbrev pub secondRegion : ℕ → List ℕ → List ℕ
 secondRegion v s = part 0 10 s ++ 2 ∷ 0 ∷ [] ++ part 12 32 s ++ part 24 104 s ++ part 56 104 (gpa v s) ++ drop 104 s
 
@@ -49,9 +49,9 @@ secondRegion v s = part 0 10 s ++ 2 ∷ 0 ∷ [] ++ part 12 32 s ++ part 24 104 
 
 pub data Question : Type 0 where
   verdict : Question
-  -- may the mask 1's region 0 be moved to this base
+  -- may region 0 of mask 1 be moved to this base
   base : ℕ → Question
-  -- does this address lie in it
+  -- does this address lie in region 0 of mask 1
   contains : ℕ → Question
 
 pub data Answer : Type 0 where
@@ -61,15 +61,16 @@ pub data Answer : Type 0 where
   yes : Answer
   no : Answer
 
--- what the definitions of the calls' answers say
-abbrev pub verdictSays : Refusal → Answer
-verdictSays r = cond (isRefusal r) (refused (r .number) (r .row) (r .detail)) accepted
+-- the refusal, or else this answer
+abbrev pub refusalOr : Refusal → Answer → Answer
+refusalOr r answer = cond (isRefusal r) (refused (r .number) (r .row) (r .detail)) answer
 
 abbrev pub checkSays : Checked → Answer
-checkSays c = cond (isRefusal (c .refusal)) (verdictSays (c .refusal)) (cond (c .holds) yes no)
+checkSays c = refusalOr (c .refusal) (cond (c .holds) yes no)
 
+-- what the definitions of the calls' answers say of a sheet
 abbrev pub says : Question → List ℕ → Answer
-says verdict s = verdictSays (verdictRefusal limits s)
+says verdict s = refusalOr (verdictRefusal limits s) accepted
 says (base x) s = checkSays (baseCheckOf limits s 1 0 x)
 says (contains x) s = checkSays (containsOf limits s 1 0 x)
 

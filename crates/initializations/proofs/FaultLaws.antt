@@ -1,8 +1,8 @@
 -- What is wrong with an initialization header, kind by kind.
 -- Assumes nothing.
 use mathlib.Core.Path.{_≡_, refl, ap}
-use mathlib.Core.Bool.{Bool, false, not, false≢true}
-use mathlib.Core.Option.{Option, none, some}
+use mathlib.Core.Bool.{false, not, false≢true}
+use mathlib.Core.Option.{none, some}
 use Prim.Native.Nat.{ℕ}
 use Rattle.rows.specs.Rows.{Rows, any}
 use Rattle.igvm_defs.specs.declared.Arch.{Arch}

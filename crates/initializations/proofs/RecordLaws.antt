@@ -1,40 +1,20 @@
 -- The record of regions answers for the rows that it holds.
 -- Assumes nothing.
 use mathlib.Core.Path.{_≡_, refl, ap, ap₂, _∙_}
-use mathlib.Core.Bool.{Bool, true, false, _&&_, _||_, or-false, and-comm}
-use mathlib.Core.Option.{Option, none, some}
-use Prim.Native.Nat.{ℕ, _+_, _≤_, _<_}
+use mathlib.Core.Bool.{Bool, false, _||_, or-false}
+use mathlib.Core.Option.{none, some}
+use Prim.Native.Nat.{ℕ, _+_, _<_}
 use native.Mathlib.Omega.{arith}
-use lib.Dec.{ltb}
 use lib.ListN.{length, getD, set}
 use lib.Seq.{getD-set-same, getD-set-other}
 use Rattle.rows.specs.Below.{anyBelow}
 use Rattle.rows.specs.Rows.{Rows, any, before}
 use Rattle.rows.proofs.BelowLaws.{any-more, any-same-tests}
-use Rattle.masks.specs.Masks.{shares}
-use Rattle.masks.proofs.MaskLaws.{shares-sym}
-use Rattle.addresses.specs.Addresses.{meets}
 use Rattle.initialization_header.specs.declared.IgvmInitializationHeader.{IgvmInitializationHeader}
 use Rattle.rules.specs.declared.Region.{Region}
 use Rattle.initializations.specs.declared.RelocRegions.{RelocRegions}
-use Rattle.rules.specs.Regions.{regionOf, testRegion, regionPasses, tablesShare, overlap}
-use Rattle.initializations.specs.Record.{entry, anyRegion, Pushed, HoldsRegions}
-
--- ---- pairs of regions
-
-pub tables-share-sym : (r q : Region) → tablesShare r q ≡ tablesShare q r
-unfolding tablesShare
-tables-share-sym r q = rw (and-comm (r .«page_table») (q .«page_table»), shares-sym (r .mask) (q .mask))
-
-meets-sym : (base size base2 size2 : ℕ) → meets base size base2 size2 ≡ meets base2 size2 base size
-unfolding meets
-meets-sym base size base2 size2 = and-comm (ltb base (base2 + size2)) (ltb base2 (base + size))
-
-pub overlap-sym : (r q : Region) → overlap r q ≡ overlap q r
-unfolding overlap
-overlap-sym r q = rw (shares-sym (r .mask) (q .mask), meets-sym (r .gpa) (r .size) (q .gpa) (q .size))
-
--- ---- the record
+use Rattle.rules.specs.Regions.{regionOf, regionPasses}
+use Rattle.initializations.specs.Record.{entry, Pushed, HoldsRegions}
 
 -- no region, and no row
 pub holds-none : (r : RelocRegions) (xs : Rows IgvmInitializationHeader) → r .count ≡ 0 → HoldsRegions r (before 0 xs)

@@ -9,13 +9,35 @@ ghost use Rattle.igvm_defs.specs.Refusals.{noFault};
 ghost use Rattle.masks.specs.Masks.{individualMasks, firstMask};
 ghost use Rattle.platforms.specs.Record.{HoldsPlatforms, lastTypeIsCca};
 ghost use Rattle.rules.specs.Regions.{tablesShare, overlap, tableHolds};
-ghost use Rattle.rules.specs.Initializations.{validateRegion, validateTable, validateInitialization, refuseBit};
+ghost use Rattle.rules.specs.Initializations.{validateAddresses, validateRegion, validateTable, validateInitialization, refuseBit};
 ghost use Rattle.initializations.specs.Record.{entry, anyRegion, Pushed, regionFault, HoldsRegions, InitializationStepped};
 use igvm_defs::Arch;
 use igvm_defs::Fault;
 use initialization_header::IgvmInitializationHeader;
 use platforms::Platforms;
 use rules::Region;
+
+// 20, with the first of gpa, minimum and maximum that is not a multiple of the alignment.
+fn validate_addresses(alignment: u64, gpa: u64, minimum: u64, maximum: u64) -> Fault
+    ensures { λ r. ⌜ r ≡ validateAddresses alignment gpa minimum maximum ⌝ }
+{
+    igvm_defs::refuse(
+        !addresses::is_multiple(gpa, alignment),
+        20,
+        gpa,
+        igvm_defs::refuse(
+            !addresses::is_multiple(minimum, alignment),
+            20,
+            minimum,
+            igvm_defs::refuse(
+                !addresses::is_multiple(maximum, alignment),
+                20,
+                maximum,
+                Fault::NONE,
+            ),
+        ),
+    )
+}
 
 // 17, 18, 19 and 20: a relocatable region alone.
 fn validate_region(alignment: u64, gpa: u64, size: u64, minimum: u64, maximum: u64) -> Fault
@@ -33,22 +55,7 @@ fn validate_region(alignment: u64, gpa: u64, size: u64, minimum: u64, maximum: u
                 alignment == 0,
                 19,
                 0,
-                igvm_defs::refuse(
-                    !addresses::is_multiple(gpa, alignment),
-                    20,
-                    gpa,
-                    igvm_defs::refuse(
-                        !addresses::is_multiple(minimum, alignment),
-                        20,
-                        minimum,
-                        igvm_defs::refuse(
-                            !addresses::is_multiple(maximum, alignment),
-                            20,
-                            maximum,
-                            Fault::NONE,
-                        ),
-                    ),
-                ),
+                validate_addresses(alignment, gpa, minimum, maximum),
             ),
         ),
     )

@@ -4,10 +4,8 @@ use mathlib.Core.Path.{_≡_, refl}
 use mathlib.Core.List.{List, [], _∷_, _++_}
 use Prim.Native.Nat.{ℕ, zero, suc, _+_, _/_, _%_, _<_}
 use native.Mathlib.Omega.{arith}
-use lib.ListN.{length, take}
-use Rattle.igvm_defs.specs.Kinds.{fields}
+use lib.ListN.{length}
 use Rattle.igvm_defs.proofs.Runs.{All, each}
-use Rattle.sheet.specs.Table.{rowKind, rowLength, bodyOf}
 use Rattle.order.specs.Reordered.{Alike, PairedRows}
 
 -- ---- bytes
@@ -67,6 +65,10 @@ parameterArea initial = row 33 (u 8 0x1000 ++ u 4 7 ++ initial)
 abbrev pub vpCount : Row
 vpCount = row 34 (u 4 7 ++ u 4 0)
 
+-- an insert of area 7 at gpa 0, of mask 1
+abbrev pub parameterInsert : Row
+parameterInsert = row 50 (u 8 0 ++ u 4 1 ++ u 4 7)
+
 -- a VBS context of mask 1 and VTL 0 with these opaque bytes
 abbrev pub aarch64Vbs : List ℕ → Row
 aarch64Vbs opaque = row 48 (u 4 1 ++ 0 ∷ opaque)
@@ -88,11 +90,6 @@ pub swap-twice : (i : ℕ) → swap (swap i) ≡ i
 swap-twice zero = refl
 swap-twice (suc zero) = refl
 swap-twice (suc (suc i)) = refl
-
--- rows that are alike, by computation
-abbrev pub alike : {a b : List ℕ} {k m : ℕ} → rowKind b m ≡ rowKind a k → rowLength b m ≡ rowLength a k
-    → take (fields (rowKind a k)) (bodyOf b m) ≡ take (fields (rowKind a k)) (bodyOf a k) → Alike a b k m
-alike kind bodyLength bodyFields = record { kind = kind; bodyLength = bodyLength; bodyFields = bodyFields }
 
 module _ {a b : List ℕ} {Tied : ℕ → ℕ → Type 0} {first : ℕ} where
   -- every row in its place
@@ -118,8 +115,8 @@ module _ {a b : List ℕ} {Tied : ℕ → ℕ → Type 0} {first : ℕ} where
         from = swap;
         to-below = swap-below n;
         from-below = swap-below n;
-        from-to = λ i l. swap-twice i;
-        to-from = λ i l. swap-twice i;
+        from-to = λ i l. rw swap-twice;
+        to-from = λ i l. rw swap-twice;
         alike = λ i l. each (λ i. Alike a b (first + i) (first + swap i)) 0 (suc (suc n)) rows i (omega arith) (omega arith);
         keeps = keeps;
       }

@@ -65,7 +65,7 @@ module _ (l : Limits) {a b : List ℕ} (ok : Readable l a) (R : Reordered a b) w
         platforms = paired-in platformList platformOf platform-local SameMask _ _ _ _ _ refl (ap (λ h. h .platforms) (heads R)) (omega arith)
             (λ i u. platform-row l a ok _ (omega arith)) (λ i j u v t. t) (R .platforms);
         initializations = paired-in initializationList initializationOf initialization-local Free _ _ _ _ _ (ap (λ h. h .platforms) (heads R))
-            (ap (λ h. h .initializations) (heads R)) (omega arith) (λ i u. initialization-row l a ok _ (omega arith) (omega arith)) (λ i j u v t. t)
+            (ap (λ h. h .initializations) (heads R)) (omega arith) (λ i u. initialization-row l a ok _ (omega arith) (omega arith)) (λ i j u v t. absurd t)
             (R .initializations);
         directives = paired-in directiveList directiveOf directive-local SameArea _ _ _ _ _ (ap (λ h. h .platforms + h .initializations) (heads R))
             (ap (λ h. h .directives) (heads R)) (omega arith) directive-in

@@ -1,10 +1,12 @@
--- Demand 3 with a condition left out is false: with directives naming one area free to move, with platforms of one mask free to move, and with
--- bytes left over. Each by two sheets, the first accepted and the second refused.
+-- Demand 3 with a condition left out is false: with directives naming one area free to move, or the inserts among them alone, with platforms of one
+-- mask free to move, and with bytes left over. Each by two sheets, the first accepted and the second refused.
 -- Assumes nothing.
 use mathlib.Core.Path.{_≡_, refl}
 use mathlib.Core.Bool.{true≢false}
 use mathlib.Core.List.{List, [], _∷_, _++_}
-use Prim.Native.Nat.{ℕ, _+_}
+use mathlib.Core.Logic.{_≢_}
+use Prim.Native.Nat.{ℕ, zero, suc, _+_, _<_}
+use native.Mathlib.Omega.{arith}
 use lib.ListN.{length, take}
 use lib.Count.{ones, onesIn}
 use Rattle.rows.specs.Below.{anyBelow, firstBelow, lastBelow, sumBelow}
@@ -31,7 +33,7 @@ use Rattle.headers.specs.Headers.{sheetHeaders}
 use Rattle.answers.specs.Verdict.{verdictRefusal}
 use Rattle.order.specs.Reordered.{PairedRows, OneMask, OneArea, Reordered}
 use Rattle.order.specs.Demand.{Accepted}
-use Rattle.order.proofs.Images.{sheetOf, platform, ccaPolicy, parameterArea, vpCount, alike, unmoved, exchanged}
+use Rattle.order.proofs.Images.{sheetOf, platform, ccaPolicy, parameterArea, vpCount, parameterInsert, swap, unmoved, exchanged}
 use Rattle.order.proofs.Theorem.{accepted-readable, demand-3}
 
 -- ---- the sheets
@@ -42,6 +44,13 @@ areaFirst = sheetOf (platform 1 6 ∷ []) [] (parameterArea (1 ∷ 2 ∷ 3 ∷ [
 
 unfoldable pub areaLast : List ℕ
 areaLast = sheetOf (platform 1 6 ∷ []) [] (vpCount ∷ parameterArea (1 ∷ 2 ∷ 3 ∷ []) ∷ [])
+
+-- the area before its insert, and after it
+unfoldable pub insertLast : List ℕ
+insertLast = sheetOf (platform 1 6 ∷ []) [] (parameterArea (1 ∷ 2 ∷ 3 ∷ []) ∷ parameterInsert ∷ [])
+
+unfoldable pub insertFirst : List ℕ
+insertFirst = sheetOf (platform 1 6 ∷ []) [] (parameterInsert ∷ parameterArea (1 ∷ 2 ∷ 3 ∷ []) ∷ [])
 
 -- the last platform of mask 1 is CCA, and the first is
 unfoldable pub ccaLast : List ℕ
@@ -61,18 +70,20 @@ longer = plain ++ 0 ∷ []
 verdicts :
     (Accepted limits areaFirst)
     × (verdictRefusal limits areaLast ≡ refusal 32 2 0)
+    × (Accepted limits insertLast)
+    × (verdictRefusal limits insertFirst ≡ refusal 32 2 0)
     × (Accepted limits ccaLast)
     × (verdictRefusal limits ccaFirst ≡ refusal 25 3 1)
     × (Accepted limits plain)
     × (verdictRefusal limits longer ≡ refusal 6 0 0)
 unfolding
-    areaFirst areaLast ccaLast ccaFirst plain longer ones onesIn anyBelow firstBelow lastBelow sumBelow leAt isFault isRefusal inRow orElse firstFault
+    areaFirst areaLast insertLast insertFirst ccaLast ccaFirst plain longer ones onesIn anyBelow firstBelow lastBelow sumBelow leAt isFault isRefusal inRow orElse firstFault
     spans kindOf lengthOk platformTypes isPlatformType platformTypeOf limits headOf layoutOk withinLimits startFault revisionOf pageSizeFault rowKind
     rowLength offsetOf bodyOf listAt codesOk rowFault endFault rowsRefusal readRefusal sheetRefusal platformOf initializationOf directiveOf shares
     isOneBit hasBit bitsBelow firstMask isMultiple regionPasses validatePlatform sameType platformFault lastIsCca bitWithoutCca initializationFault
     wrongArch allocates inserts isAllocated badArea directiveFault noPlatform noMatchingVpContext platformsRefusal initializationsRefusal
     directivesRefusal headersRefusal sheetHeaders verdictRefusal
-verdicts = (refl, refl, refl, refl, refl, refl)
+verdicts = (refl, refl, refl, refl, refl, refl, refl, refl)
 
 -- ---- the statement, by what it asks of b's end and which rows it ties
 abbrev pub Statement : (List ℕ → Type 0) → (List ℕ → ℕ → ℕ → Type 0) → (List ℕ → ℕ → ℕ → Type 0) → Type 0
@@ -92,6 +103,10 @@ AnyEnd s = Unit
 abbrev pub NoneTied : List ℕ → ℕ → ℕ → Type 0
 NoneTied s = Free
 
+-- directive rows naming one area, none of which is an insert
+abbrev pub OneAreaNotInserted : List ℕ → ℕ → ℕ → Type 0
+OneAreaNotInserted s k m = (rowKind s k ≢ 50) × (rowKind s m ≢ 50) × OneArea s k m
+
 -- with all of its conditions it is a part of demand 3
 pub all-asked : Statement Whole OneMask OneArea
 all-asked a b ok head whole platforms initializations directives =
@@ -104,25 +119,50 @@ unfolding areaFirst areaLast isRefusal headOf rowKind rowLength offsetOf bodyOf 
 areas-keep f =
     let accepted = verdicts .0 in
     let refused = verdicts .1 in
-    let platforms = unmoved 1 (alike refl refl refl ⨾ tt) in
-    let directives = exchanged 0 (alike refl refl refl ⨾ alike refl refl refl ⨾ tt) (λ i j l m t. absurd t) in
+    let platforms = unmoved 1 (record { kind = refl; bodyLength = refl; bodyFields = refl } ⨾ tt) in
+    let directives = exchanged 0 (
+    record { kind = refl; bodyLength = refl; bodyFields = refl } ⨾
+    record { kind = refl; bodyLength = refl; bodyFields = refl } ⨾
+    tt) (λ i j l m t. absurd t) in
     true≢false (rw refused at (f areaFirst areaLast (accepted-readable limits areaFirst accepted) refl refl platforms (unmoved 0 tt) directives accepted))
+
+-- so must the inserts among them: here the area is inserted before it is allocated
+pub inserts-keep : Statement Whole OneMask OneAreaNotInserted → ⊥
+unfolding insertLast insertFirst isRefusal headOf rowKind rowLength offsetOf bodyOf kindOf spans fields leAt sumBelow
+inserts-keep f =
+    let accepted = verdicts .2 in
+    let refused = verdicts .3 in
+    let platforms = unmoved 1 (record { kind = refl; bodyLength = refl; bodyFields = refl } ⨾ tt) in
+    let directives = exchanged 0 (
+    record { kind = refl; bodyLength = refl; bodyFields = refl } ⨾
+    record { kind = refl; bodyLength = refl; bodyFields = refl } ⨾
+    tt) keeps in
+    true≢false (rw refused at (f insertLast insertFirst (accepted-readable limits insertLast accepted) refl refl platforms (unmoved 0 tt) directives accepted))
+  where
+    keeps : (i j : ℕ) → i < j → j < 2 → OneAreaNotInserted insertLast (1 + i) (1 + j) → swap i < swap j
+    keeps zero zero l m t = absurd (omega arith)
+    keeps zero (suc zero) l m t = absurd (t .1 refl)
+    keeps zero (suc (suc j)) l m t = absurd (omega arith)
+    keeps (suc i) j l m t = absurd (omega arith)
 
 -- platforms of one mask must keep theirs: here CCA is the last no more
 pub platforms-keep : Statement Whole NoneTied OneArea → ⊥
 unfolding ccaLast ccaFirst isRefusal headOf rowKind rowLength offsetOf bodyOf kindOf spans fields leAt sumBelow
 platforms-keep f =
-    let accepted = verdicts .2 in
-    let refused = verdicts .3 in
-    let platforms = exchanged 0 (alike refl refl refl ⨾ alike refl refl refl ⨾ tt) (λ i j l m t. absurd t) in
-    let initializations = unmoved 1 (alike refl refl refl ⨾ tt) in
+    let accepted = verdicts .4 in
+    let refused = verdicts .5 in
+    let platforms = exchanged 0 (
+    record { kind = refl; bodyLength = refl; bodyFields = refl } ⨾
+    record { kind = refl; bodyLength = refl; bodyFields = refl } ⨾
+    tt) (λ i j l m t. absurd t) in
+    let initializations = unmoved 1 (record { kind = refl; bodyLength = refl; bodyFields = refl } ⨾ tt) in
     true≢false (rw refused at (f ccaLast ccaFirst (accepted-readable limits ccaLast accepted) refl refl platforms initializations (unmoved 0 tt) accepted))
 
 -- no byte may be left over
 pub nothing-left : Statement AnyEnd OneMask OneArea → ⊥
 unfolding plain longer isRefusal headOf rowKind rowLength offsetOf bodyOf kindOf spans fields leAt sumBelow
 nothing-left f =
-    let accepted = verdicts .4 in
-    let refused = verdicts .5 in
-    let platforms = unmoved 1 (alike refl refl refl ⨾ tt) in
+    let accepted = verdicts .6 in
+    let refused = verdicts .7 in
+    let platforms = unmoved 1 (record { kind = refl; bodyLength = refl; bodyFields = refl } ⨾ tt) in
     true≢false (rw refused at (f plain longer (accepted-readable limits plain accepted) refl tt platforms (unmoved 0 tt) (unmoved 0 tt) accepted))

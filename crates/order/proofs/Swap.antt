@@ -33,7 +33,7 @@ use Rattle.answers.specs.Verdict.{verdictRefusal}
 use Rattle.answers.specs.Relocations.{relocationsOf, wordsAfter}
 use Rattle.order.specs.Reordered.{OneMask, OneArea, Reordered}
 use Rattle.order.specs.Demand.{Accepted, SameAnswers}
-use Rattle.order.proofs.Images.{sheetOf, platform, ccaPolicy, region, pageTable, pageData, parameterArea, vpCount, aarch64Vbs, swap, alike, exchanged}
+use Rattle.order.proofs.Images.{sheetOf, platform, ccaPolicy, region, pageTable, pageData, parameterArea, vpCount, aarch64Vbs, swap, exchanged}
 use Rattle.order.proofs.Theorem.{accepted-readable, demand-3}
 
 unfoldable pub sheetA : List ℕ
@@ -54,11 +54,22 @@ reordered =
     record {
       head = refl;
       whole = refl;
-      platforms = exchanged 0 (alike refl refl refl ⨾ alike refl refl refl ⨾ tt) other-masks;
-      initializations = exchanged 2
-          (alike refl refl refl ⨾ alike refl refl refl ⨾ alike refl refl refl ⨾ alike refl refl refl ⨾ tt) (λ i j l m t. absurd t);
-      directives = exchanged 2
-          (alike refl refl refl ⨾ alike refl refl refl ⨾ alike refl refl refl ⨾ alike refl refl refl ⨾ tt) one-area;
+      platforms = exchanged 0 (
+          record { kind = refl; bodyLength = refl; bodyFields = refl } ⨾
+          record { kind = refl; bodyLength = refl; bodyFields = refl } ⨾
+          tt) other-masks;
+      initializations = exchanged 2 (
+          record { kind = refl; bodyLength = refl; bodyFields = refl } ⨾
+          record { kind = refl; bodyLength = refl; bodyFields = refl } ⨾
+          record { kind = refl; bodyLength = refl; bodyFields = refl } ⨾
+          record { kind = refl; bodyLength = refl; bodyFields = refl } ⨾
+          tt) (λ i j l m t. absurd t);
+      directives = exchanged 2 (
+          record { kind = refl; bodyLength = refl; bodyFields = refl } ⨾
+          record { kind = refl; bodyLength = refl; bodyFields = refl } ⨾
+          record { kind = refl; bodyLength = refl; bodyFields = refl } ⨾
+          record { kind = refl; bodyLength = refl; bodyFields = refl } ⨾
+          tt) one-area;
     }
   where
     -- the two platforms have two masks

@@ -41,7 +41,7 @@ pub record SameAnswers (l : Limits) (a b : List ℕ) (R : Reordered a b) : Type 
   -- Where accepted, with equally many words lent (bytes short of a word don't count), both region lists end in the same refusal, 35 or 37, or
   -- both give the same count and page-table numbers.
   pub relocations : Accepted l a → (given bytes bytes' : ℕ) → bytes / 8 ≡ bytes' / 8 → relocationsOf l a given bytes ≡ relocationsOf l b given bytes'
-  -- Where they are not refused, x and y being the bytes lent, paired regions have the same eight words, each region at its own number.
+  -- Where the lists are not refused, x and y being the bytes lent, paired regions have the same eight words, each region at its own number.
   pub words : Accepted l a → (given i : ℕ) → IsRegion a given i → (x y : List ℕ) → length x / 8 ≡ length y / 8
       → isRefusal (relocationsOf l a given (length x) .refusal) ≡ false → (k : ℕ) → k < 8
       → leAt 8 (wordsAfter l a given x) (64 * numberIn a given i + 8 * k)

@@ -17,16 +17,21 @@ use Rattle.addresses.specs.Addresses.{isMultiple, onPage, endsBeyond}
 use Rattle.rules.specs.declared.Region.{Region}
 use Rattle.rules.specs.Regions.{regionPasses, tablesShare, overlap}
 
+-- 20, with the first of gpa, minimum and maximum that is not a multiple of the alignment
+abbrev pub validateAddresses : ℕ → ℕ → ℕ → ℕ → Fault
+validateAddresses alignment gpa minimum maximum =
+    refuse (not (isMultiple gpa alignment)) (fault 20 gpa)
+    (refuse (not (isMultiple minimum alignment)) (fault 20 minimum)
+    (refuse (not (isMultiple maximum alignment)) (fault 20 maximum)
+    noFault))
+
 -- kind 18 alone: 17, 18, 19, 20
 unfoldable pub validateRegion : ℕ → ℕ → ℕ → ℕ → ℕ → Fault
 validateRegion alignment gpa size minimum maximum =
     refuse (not (onPage size)) (fault 17 0)
     (refuse (not (onPage alignment)) (fault 18 0)
     (refuse (eqb alignment 0) (fault 19 0)
-    (refuse (not (isMultiple gpa alignment)) (fault 20 gpa)
-    (refuse (not (isMultiple minimum alignment)) (fault 20 minimum)
-    (refuse (not (isMultiple maximum alignment)) (fault 20 maximum)
-    noFault)))))
+    (validateAddresses alignment gpa minimum maximum)))
 
 -- kind 19 alone: 21, 22 (size, used size), 23
 unfoldable pub validateTable : ℕ → ℕ → ℕ → Fault

@@ -138,14 +138,14 @@ pub struct Cursor {
     pub at: usize,
 }
 
-fn kind_at(s: &[u8], row: usize) -> u32
+pub fn kind_at(s: &[u8], row: usize) -> u32
     requires { ⌜ 24 + 8 * row ≤ length (now s) ⌝ }
     ensures { λ r. ⌜ r ≡ rowKind (now (s .entry)) row ⌝ }
 {
     le::u32_at(s, 16 + 8 * row)
 }
 
-fn length_at(s: &[u8], row: usize) -> usize
+pub fn length_at(s: &[u8], row: usize) -> usize
     requires { ⌜ 24 + 8 * row ≤ length (now s) ⌝ }
     ensures { λ r. ⌜ (r ≡ rowLength (now (s .entry)) row) × (r < 4294967296) ⌝ }
 {
@@ -153,7 +153,7 @@ fn length_at(s: &[u8], row: usize) -> usize
 }
 
 // The part of the sheet that starts at `at` and has `len` bytes.
-fn part(s: &[u8], at: usize, len: usize) -> &[u8]
+pub fn part(s: &[u8], at: usize, len: usize) -> &[u8]
     requires { ⌜ at + len ≤ length (now s) ⌝ }
     ensures { λ r. ⌜ now r ≡ take len (drop at (now (s .entry))) ⌝ }
 {

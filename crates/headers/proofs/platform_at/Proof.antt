@@ -1,31 +1,34 @@
-use Rattle.headers.proofs.HeaderLaws.{body-long}
+use mathlib.Core.Path.{_≡_, _∙_}
+use denote.Ref.{now}
 use borrow.Author.Needs.{needs}
+use Rattle.sheet.specs.Table.{rowKind, bodyOf}
+use Rattle.reader.proofs.ReaderLaws.{row-at-cursor, body-at-cursor}
+use Rattle.headers.proofs.HeaderLaws.{body-long}
 use Rattle.headers.proofs.platform_at.Statement.{statement}
 use Rattle.headers.proofs.platform_at.Tie as tie
-use Rattle.headers.proofs.platform_at.Reads as reads
-use Rattle.headers.proofs.platform_at.Lts as lts
-use Rattle.platform_header.proofs.decode.Reads as decode-reads
-use Rattle.sheet.proofs.Cursor.body.Reads as body-reads
-use Rattle.sheet.proofs.Cursor.kind.Reads as kind-reads
 
--- src/lib.rt:21:29
-kind-requires : tie.Need-kind-requires
-kind-requires c κs = search needs
+-- what the reader reads at the cursor is the row's kind and body
+kind : (c : tie.After-body-of) → let a = c .before .before .before .args in c .before .read-row .result .what .kind ≡ rowKind (now (a .s)) (a .c .row)
+kind c =
+    let st = c .before .before .before in
+    rw (c .before .read-row .ensures, row-at-cursor (now (st .args .s)) (st .args .c) (st .pre .0))
 
--- src/lib.rt:21:40
-body-requires : tie.Need-body-requires
-body-requires c κs = search needs
+body : (c : tie.After-body-of) → let a = c .before .before .before .args in now (c .body-of .result) ≡ bodyOf (now (a .s)) (a .c .row)
+body c = c .body-of .ensures ∙ body-at-cursor _ _ (c .before .before .before .pre .0)
 
--- src/lib.rt:21:5
+read-row-requires : tie.Need-read-row-requires
+read-row-requires c κs = search needs
+
+body-of-requires : tie.Need-body-of-requires
+body-of-requires c κs = search needs
+
 decode-requires : tie.Need-decode-requires
 decode-requires c κs =
-    let k = c .before .kind .ensures in
     let pre = c .before .before .before .pre in
-    (rw k (pre .1), rw (k, c .body .ensures) (body-long _ _ (pre .0)))
+    (rw (kind c) (pre .1), rw (kind c, body c) (body-long _ _ (pre .0)))
 
--- src/lib.rt:16:1
 returns : tie.Need-returns
-returns c = cc
+returns c = rw (c .decode .ensures, kind (c .before), body (c .before))
 
 pub platform-at-spec : {M : Type 1} → statement M
-platform-at-spec = tie.close (tie.spec kind-requires body-requires decode-requires returns)
+platform-at-spec = tie.close (tie.spec read-row-requires body-of-requires decode-requires returns)

@@ -1,0 +1,3 @@
+pub mod FirstPasses
+pub mod DirectivePass
+pub mod VerdictLaws
