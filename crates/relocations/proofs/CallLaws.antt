@@ -1,66 +1,146 @@
 -- What the calls answer where one of their refusals applies, and where none does.
 -- Assumes nothing.
 use mathlib.Core.Path.{_≡_, refl, ap, sym, _∙_}
-use mathlib.Core.Bool.{Bool, true, false, not}
+use mathlib.Core.Bool.{Bool, true, false, not, _&&_, _||_}
 use mathlib.Core.List.{List}
-use mathlib.Core.Option.{none}
+use mathlib.Core.Option.{Option, none, some}
 use Prim.Native.Nat.{ℕ, _*_, _/_, _≤_}
 use native.Mathlib.Omega.{arith}
 use lib.Dec.{ltb}
 use lib.ListN.{length}
 use borrow.Author.Tests.{ltb-false}
-use Rattle.igvm_defs.specs.declared.Refusal.{Refusal}
-use Rattle.igvm_defs.specs.Refusals.{noRefusal, isRefusal, isFault, inRow}
-use Rattle.igvm_defs.proofs.RefusalLaws.{orElse-first, orElse-later, row-refusal, no-fault-row, refuse-fault, no-fault}
 use Rattle.rows.proofs.Bools.{or-false-parts}
-use Rattle.sheet.specs.Head.{Limits}
+use Rattle.igvm_defs.specs.declared.Refusal.{Refusal}
+use Rattle.igvm_defs.specs.Refusals.{noFault, noRefusal, isFault, isRefusal, inRow, orElse}
+use Rattle.igvm_defs.proofs.RefusalLaws.{orElse-first, orElse-later, else-refusal, row-refusal, no-fault-row, refuse-fault}
+use Rattle.sheet.specs.Head.{Limits, limits}
+use Rattle.sheet.specs.Read.{Readable, sheetRefusal}
+use Rattle.sheet.proofs.Readable.{sheet-says}
 use Rattle.rules.specs.Relocations.{regionCount, regionAt, pageTableAt}
+use Rattle.rules.specs.declared.IgvmRelocatableRegion.{IgvmRelocatableRegion}
+use Rattle.rules.specs.declared.PageTableRegion.{PageTableRegion}
+use Rattle.words.specs.Lent.{rowsPut}
 use Rattle.words.proofs.LentLaws.{rows-none}
-use Rattle.answers.specs.declared.Relocations.{Relocations}
+use Rattle.regions.specs.declared.FoundRegion.{FoundRegion}
+use Rattle.regions.specs.declared.FoundTable.{FoundTable}
+use Rattle.regions.specs.Found.{foundRegion, foundTable}
+use Rattle.answers.specs.declared.Checked.{Checked}
 use Rattle.answers.specs.Verdict.{verdictRefusal}
-use Rattle.answers.specs.Relocations.{sheetInitializations, maskFault, wordsFault, relocationsRefusal, foundOf, relocationsOf, regionWords, wordsAfter, regionFault, checkRefusal}
+use Rattle.answers.specs.Relocations.{sheetInitializations, maskFault, wordsFault, relocationsRefusal, foundOf, relocationsOf, regionWords, wordsAfter, regionFault, checkRefusal, testRegion, checkOf}
+use Rattle.relocations.specs.Query.{queryRefusal}
+
+-- the mask's regions
+abbrev pub count : List ℕ → ℕ → ℕ
+count s given = regionCount (sheetInitializations s) given
+
+abbrev pub checked : Refusal → Bool → Checked
+checked refusal holds = record { refusal = refusal; holds = holds }
+
+-- what the code holds of a region or a table that was looked for
+found-test : (p : IgvmRelocatableRegion → Bool) (o : Option IgvmRelocatableRegion) → (foundRegion o .found && p (foundRegion o .region)) ≡ testRegion p o
+found-test p none = refl
+found-test p (some r) = refl
+
+pub found-table : (n : ℕ) (o : Option PageTableRegion) (t : FoundTable) → t ≡ foundTable o
+    → record { refusal = noRefusal; count = n; «has_page_table» = t .found; «page_table» = t .table } ≡ foundOf n o noRefusal
+found-table n none t e = rw e
+found-table n (some q) t e = rw e
+
+found-count : (n : ℕ) (o : Option PageTableRegion) (r : Refusal) → foundOf n o r .count ≡ n
+found-count n none r = refl
+found-count n (some t) r = refl
 
 module _ (l : Limits) (s : List ℕ) (given : ℕ) where
-  -- the mask's regions
-  abbrev pub count : ℕ
-  count = regionCount (sheetInitializations s) given
+  -- a query that is not refused is of a readable sheet
+  pub query-readable : isRefusal (queryRefusal l s given) ≡ false → Readable l s
+  unfolding queryRefusal verdictRefusal
+  query-readable h =
+      let v = or-false-parts (isRefusal (verdictRefusal l s)) _ (rw else-refusal at h) .0 in
+      let r = or-false-parts (isRefusal (sheetRefusal l s)) _ (rw else-refusal at v) .0 in
+      sheet-says l s .0 r .0
+
+  -- what every query is refused by, then a refusal of its own
+  both : (own : Refusal) → orElse (verdictRefusal l s) (orElse (inRow 0 (maskFault given)) own) ≡ orElse (queryRefusal l s given) own
+  unfolding queryRefusal
+  both own = go (isRefusal (verdictRefusal l s)) refl
+    where
+      go : (b : Bool) → isRefusal (verdictRefusal l s) ≡ b
+          → orElse (verdictRefusal l s) (orElse (inRow 0 (maskFault given)) own) ≡ orElse (orElse (verdictRefusal l s) (inRow 0 (maskFault given))) own
+      go true e = orElse-first _ _ e ∙ sym (ap (λ r. orElse r own) (orElse-first _ _ e) ∙ orElse-first _ _ e)
+      go false e = orElse-later _ _ e ∙ sym (ap (λ r. orElse r own) (orElse-later _ _ e))
+
+  pub query-stops : (n : ℕ) → isRefusal (queryRefusal l s given) ≡ true → queryRefusal l s given ≡ relocationsRefusal l s given n
+  unfolding relocationsRefusal
+  query-stops n h = sym (both _ ∙ orElse-first _ _ h)
+
+  pub words-decide : (n : ℕ) → isRefusal (queryRefusal l s given) ≡ false → inRow 0 (wordsFault (count s given) n) ≡ relocationsRefusal l s given n
+  unfolding relocationsRefusal
+  words-decide n h = sym (both _ ∙ orElse-later _ _ h)
+
+  pub check-stops : (region : ℕ) → isRefusal (queryRefusal l s given) ≡ true → queryRefusal l s given ≡ checkRefusal l s given region
+  unfolding checkRefusal
+  check-stops region h = sym (both _ ∙ orElse-first _ _ h)
+
+  pub region-decides : (region : ℕ) → isRefusal (queryRefusal l s given) ≡ false
+      → inRow 0 (regionFault (count s given) region) ≡ checkRefusal l s given region
+  unfolding checkRefusal
+  region-decides region h = sym (both _ ∙ orElse-later _ _ h)
+
+  -- a call that is not refused is of a readable sheet
+  pub list-readable : (n : ℕ) → isRefusal (relocationsRefusal l s given n) ≡ false → Readable l s
+  unfolding relocationsRefusal
+  list-readable n h = query-readable (or-false-parts (isRefusal (queryRefusal l s given)) _ (rw (both, else-refusal) at h) .0)
+
+  pub check-readable : (region : ℕ) → isRefusal (checkRefusal l s given region) ≡ false → Readable l s
+  unfolding checkRefusal
+  check-readable region h = query-readable (or-false-parts (isRefusal (queryRefusal l s given)) _ (rw (both, else-refusal) at h) .0)
 
   -- ---- the region list
 
-  pub verdict-stops : (n : ℕ) → isRefusal (verdictRefusal l s) ≡ true → relocationsRefusal l s given n ≡ verdictRefusal l s
-  unfolding relocationsRefusal
-  verdict-stops n v = orElse-first _ _ v
-
-  pub mask-stops : (n : ℕ) → isRefusal (verdictRefusal l s) ≡ false → isRefusal (inRow 0 (maskFault given)) ≡ true
-      → relocationsRefusal l s given n ≡ inRow 0 (maskFault given)
-  unfolding relocationsRefusal
-  mask-stops n v m = rw (orElse-later (verdictRefusal l s) _ v) (orElse-first _ _ m)
-
-  pub words-decide : (n : ℕ) → isRefusal (verdictRefusal l s) ≡ false → isRefusal (inRow 0 (maskFault given)) ≡ false
-      → relocationsRefusal l s given n ≡ inRow 0 (wordsFault count n)
-  unfolding relocationsRefusal
-  words-decide n v m = rw (orElse-later (verdictRefusal l s) _ v) (orElse-later _ _ m)
-
-  -- a refusal r of the call: nothing is found, and the lent bytes are as they were
-  pub refused-answer : (n : ℕ) (r : Refusal) → relocationsRefusal l s given n ≡ r → isRefusal r ≡ true → foundOf 0 none r ≡ relocationsOf l s given n
+  -- a refusal: nothing is found, and the lent bytes are as they were
+  pub refused-answer : (n : ℕ) → isRefusal (relocationsRefusal l s given n) ≡ true → foundOf 0 none (relocationsRefusal l s given n) ≡ relocationsOf l s given n
   unfolding relocationsOf
-  refused-answer n r e h = rw (e, h)
+  refused-answer n h = rw h
 
-  pub refused-words : (b : List ℕ) (r : Refusal) → relocationsRefusal l s given (length b) ≡ r → isRefusal r ≡ true → b ≡ wordsAfter l s given b
+  pub refused-words : (b : List ℕ) → isRefusal (relocationsRefusal l s given (length b)) ≡ true → b ≡ wordsAfter l s given b
   unfolding wordsAfter
-  refused-words b r e h = rw (← refused-answer (length b) r e h) (sym (rows-none _ b))
+  refused-words b h = rw (← refused-answer (length b) h) (sym (rows-none _ b))
 
-  -- no refusal: what is found
-  pub found-answer : (n : ℕ) → relocationsRefusal l s given n ≡ noRefusal
-      → relocationsOf l s given n ≡ foundOf count (pageTableAt (sheetInitializations s) given) noRefusal
-  unfolding relocationsOf isRefusal
-  found-answer n e = rw e
+  -- no refusal is the refusal of number, row and detail 0
+  pub none-refused : (n : ℕ) → isRefusal (relocationsRefusal l s given n) ≡ false → relocationsRefusal l s given n ≡ noRefusal
+  unfolding relocationsRefusal
+  none-refused n h =
+      let p = or-false-parts (isRefusal (queryRefusal l s given)) _ (rw (both, else-refusal) at h) in
+      both _ ∙ orElse-later _ _ (p .0) ∙ no-fault-row 0 _ (rw row-refusal at (p .1))
+
+  pub found-answer : (n : ℕ) → isRefusal (relocationsRefusal l s given n) ≡ false
+      → foundOf (count s given) (pageTableAt (sheetInitializations s) given) noRefusal ≡ relocationsOf l s given n
+  unfolding relocationsOf
+  found-answer n h = rw (h, none-refused n h)
 
   -- eight words a region are lent
-  pub room : (n : ℕ) → isRefusal (inRow 0 (wordsFault count n)) ≡ false → 64 * count ≤ n
-  unfolding wordsFault
+  pub room : (n : ℕ) → isRefusal (relocationsRefusal l s given n) ≡ false → 64 * count s given ≤ n
+  unfolding relocationsRefusal wordsFault
   room n h =
-      let f : (ltb (n / 8) (8 * count) || isFault noFault) ≡ false = rw (row-refusal, refuse-fault) at h in
-      let p = or-false-parts (ltb (n / 8) (8 * count)) (isFault noFault) f in
-      let q = ltb-false (n / 8) (8 * count) (p .0) in
+      let p = or-false-parts (isRefusal (queryRefusal l s given)) _ (rw (both, else-refusal) at h) .1 in
+      let f = or-false-parts (ltb (n / 8) (8 * count s given)) (isFault noFault) (rw (row-refusal, refuse-fault) at p) .0 in
+      let q = ltb-false (n / 8) (8 * count s given) f in
       omega arith
+
+  pub found-words : (b : List ℕ) → isRefusal (relocationsRefusal l s given (length b)) ≡ false
+      → rowsPut (count s given) (λ n. regionWords (regionAt (sheetInitializations s) given n)) b ≡ wordsAfter l s given b
+  unfolding wordsAfter
+  found-words b h = rw (← found-answer (length b) h, found-count)
+
+  -- ---- checks on one region
+
+  pub check-refused : (p : IgvmRelocatableRegion → Bool) (region : ℕ) → isRefusal (checkRefusal l s given region) ≡ true
+      → checked (checkRefusal l s given region) false ≡ checkOf p l s given region
+  unfolding checkOf
+  check-refused p region h = rw h
+
+  pub check-holds : (p : IgvmRelocatableRegion → Bool) (region : ℕ) (r : FoundRegion) → isRefusal (checkRefusal l s given region) ≡ false
+      → r ≡ foundRegion (regionAt (sheetInitializations s) given region)
+      → checked (checkRefusal l s given region) (r .found && p (r .region)) ≡ checkOf p l s given region
+  unfolding checkOf
+  check-holds p region r h e = rw (h, e) (ap (checked (checkRefusal l s given region)) (found-test p (regionAt (sheetInitializations s) given region)))
