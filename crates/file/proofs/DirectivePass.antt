@@ -16,7 +16,7 @@ use Rattle.igvm_defs.specs.declared.Arch.{Arch}
 use Rattle.igvm_defs.specs.declared.Fault.{Fault}
 use Rattle.igvm_defs.specs.Revision.{archOf}
 use Rattle.igvm_defs.specs.Kinds.{kindOf, directiveList}
-use Rattle.igvm_defs.specs.Refusals.{fault, noFault, noRefusal, refuse, isFault, isRefusal, inRow, orElse}
+use Rattle.igvm_defs.specs.Refusals.{fault, noFault, noRefusal, refuse, isFault, isRefusal, inRow}
 use Rattle.igvm_defs.proofs.RefusalLaws.{row-refusal, orElse-first, orElse-later, fault-stop, fault-end}
 use Rattle.directive_header.specs.declared.IgvmDirectiveHeader.{IgvmDirectiveHeader}
 use Rattle.directive_header.specs.Fields.{areaOf}
@@ -142,8 +142,8 @@ module _ (f : Headers) where
 
 -- ---- the pass
 
--- The pass stands before directive row i: `first` rows stand before the directive rows, which are n; row `bad` is the first whose area is bad; the
--- record holds the regions, the masks the contexts of the rows passed; and no row passed has a fault.
+-- The pass stands before row i of n directive rows, with the cursor c at it. k rows stand before the directive rows, and row b is the first of them
+-- whose area is bad; the record holds the regions, the masks the contexts of the rows passed, and no row passed has a fault.
 pub record Reached (s : List ℕ) (held : RelocRegions) (k n : ℕ) (a : Arch) (b : ℕ) (c : Cursor) (masks : List ℕ) (i : ℕ) : Type 0 where
   pub readable : Readable limits s
   pub first : k ≡ firstDirective s

@@ -10,7 +10,7 @@ ghost use Rattle.initialization_header.specs.declared.IgvmInitializationHeader.
 ghost use Rattle.rows.specs.Rows.{Rows};
 ghost use Rattle.rules.specs.Directives.{insideTable};
 ghost use Rattle.initializations.specs.Record.{anyRegion, HoldsRegions};
-ghost use Rattle.directives.specs.Record.{firstBadArea, lacksContext};
+ghost use Rattle.directives.specs.Record.{lacksContext, firstBadArea};
 ghost use Rattle.rules.specs.Verdict.{directivesRefusal};
 ghost use Rattle.answers.specs.Verdict.{verdictOf};
 ghost use Rattle.file.specs.Passes.{PlatformsPassed, InitializationsPassed, AreasFilled};
@@ -20,6 +20,7 @@ use igvm_defs::Fault;
 use igvm_defs::Refusal;
 use initializations::RelocRegions;
 use platforms::Platforms;
+use rules::Region;
 use sheet::Cursor;
 use sheet::SheetHead;
 
@@ -137,7 +138,15 @@ fn no_matching_vp_context(regions: RelocRegions, contexts: [u32; 3]) -> bool
     let mut i = 0;
     let mut found = false;
     while i < n {
-        found = found | directives::lacks_context(contexts, regions.entry(i));
+        let r = Region {
+            mask: regions.mask[i],
+            gpa: regions.gpa[i],
+            size: regions.size[i],
+            vp_index: regions.vp_index[i],
+            vtl: regions.vtl[i],
+            page_table: regions.page_table[i],
+        };
+        found = found | directives::lacks_context(contexts, r);
         i += 1;
     }
     found

@@ -1,7 +1,7 @@
 use Prim.Native.Nat.{_≤_}
 use native.Mathlib.Omega.{arith}
-use mathlib.Core.Path.{_≡_, _∙_}
-use lib.ListN.{length, length-take}
+use mathlib.Core.Path.{_∙_}
+use lib.ListN.{length-take}
 use borrow.Author.Needs.{needs}
 use denote.Ref.{now}
 use Rattle.sheet.proofs.Readable.{readable-bounds}

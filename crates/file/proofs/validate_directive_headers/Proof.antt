@@ -1,15 +1,9 @@
 use Prim.Native.Nat.{_-_, _+_}
 use native.Mathlib.Omega.{arith}
 use mathlib.Core.Path.{_≡_, refl, sym, ap, _∙_}
-use mathlib.Core.Bool.{true, false}
-use mathlib.Core.List.{List}
-use lib.Dec.{eqb}
 use borrow.Author.Needs.{needs}
 use denote.Ref.{now}
 use Rattle.rows.specs.Below.{anyBelow}
-use Rattle.rows.specs.Rows.{before}
-use Rattle.igvm_defs.specs.Refusals.{isFault}
-use Rattle.rules.specs.Directives.{badArea}
 use Rattle.sheet.specs.declared.SheetHead.{SheetHead}
 use Rattle.headers.specs.Headers.{sheetHeaders}
 use Rattle.directives.specs.Record.{DirectiveStepped}
@@ -34,7 +28,7 @@ stepped c =
     let f = sheetHeaders (now (l .before .before .before .before .before .before .before .before .before .args .s)) in
     let r = l .loop .inv in
     let g = c .before .before .directive-at in
-    let h : g .result ≡ f .directives .row (l .loop .i) = g .ensures ∙ reached-header r in
+    let h : g .result ≡ f .directives .row (l .loop .i) = rw (g .ensures) (reached-header r) in
     let bad = rw (← h) at (reached-bad r (c .before .before .before .loop-test .taken)) in
     rw (← r .arch)
     (c .step .ensures (f .initializations) (f .directives) (l .loop .i) h bad (c .before .inside-table .ensures (f .initializations) (r .regions)) (r .contexts))
