@@ -1,11 +1,11 @@
 -- Which refusal the verdict is, list after list, and the answer that it makes.
 -- Assumes nothing.
-use mathlib.Core.Path.{_≡_, refl, sym, _∙_}
+use mathlib.Core.Path.{_≡_, _∙_}
 use mathlib.Core.Bool.{true, false}
 use mathlib.Core.List.{List}
 use Prim.Native.Nat.{ℕ, _+_}
 use Rattle.igvm_defs.specs.declared.Refusal.{Refusal}
-use Rattle.igvm_defs.specs.Refusals.{noRefusal, isRefusal, isFault, inRow, firstFault}
+use Rattle.igvm_defs.specs.Refusals.{noRefusal, isRefusal, inRow, firstFault}
 use Rattle.igvm_defs.proofs.RefusalLaws.{row-refusal, else-refusal, no-fault-row, orElse-first, orElse-later}
 use Rattle.rows.proofs.Bools.{or-false-parts}
 use Rattle.sheet.specs.Head.{Limits, headOf}

@@ -6,7 +6,6 @@ use borrow.Author.Needs.{needs}
 use denote.Ref.{now}
 use Rattle.igvm_defs.specs.Refusals.{isFault}
 use Rattle.headers.specs.Headers.{sheetHeaders}
-use Rattle.sheet.proofs.Readable.{readable-bounds}
 use Rattle.initializations.specs.Record.{InitializationStepped}
 use Rattle.initializations.proofs.RecordLaws.{holds-none}
 use Rattle.file.proofs.DirectivePass.{sheet-counts}
