@@ -34,9 +34,10 @@ returns : tie.Need-returns
 returns c =
     let e = c .before .before .before .relocations-refusal .ensures in
     let a = c .before .before .before .before .before .before .args in
-    let t = rw e at (sym (c .before .before .is-refusal .ensures) ∙ c .before .if1 .taken) in
-    (c .refused-relocations .ensures ∙ ap (foundOf 0 none) e ∙ refused-answer limits (now (a .s)) (a .given) (length (now (a .words))) t,
-    refused-words limits (now (a .s)) (a .given) (now (a .words)) t)
+    let t = rw e at (sym (c .before .before .is-refusal .ensures) ∙ c .before .if1 .taken) in (
+      c .refused-relocations .ensures ∙ ap (foundOf 0 none) e ∙ refused-answer limits (now (a .s)) (a .given) (length (now (a .words))) t,
+      refused-words limits (now (a .s)) (a .given) (now (a .words)) t,
+    )
 
 new-requires : tie.Need-new-requires
 new-requires c κs =
@@ -58,9 +59,10 @@ same-length c = search needs
 returns-2 : tie.Need-returns-2
 returns-2 c =
     let d = c .before .before .before .before .before .before in
-    let a = d .before .before .before .before .before .args in
-    (c .found .ensures ∙ found-answer limits (now (a .s)) (a .given) (length (now (a .words))) (not-refused d),
-    c .before .before .before .put-regions .ensures ∙ found-words limits (now (a .s)) (a .given) (now (a .words)) (not-refused d))
+    let a = d .before .before .before .before .before .args in (
+      c .found .ensures ∙ found-answer limits (now (a .s)) (a .given) (length (now (a .words))) (not-refused d),
+      c .before .before .before .put-regions .ensures ∙ found-words limits (now (a .s)) (a .given) (now (a .words)) (not-refused d),
+    )
 
 pub relocations-spec : {M : Type 1} → statement M
 relocations-spec =
