@@ -36,20 +36,29 @@ mod linked {
 
     // SAFETY, for all four: the pointers and lengths are those of live slices, and the functions read and write nothing else.
 
+    /// The slice's pointer. That of an empty slice may be null: it is for odd `which`.
+    fn pointer(bytes: &[u8], which: u32) -> *const u8 {
+        if bytes.is_empty() && which % 2 == 1 {
+            return std::ptr::null();
+        }
+        bytes.as_ptr()
+    }
+
     fn verdict(sheet: &[u8], which: u32) -> u64 {
-        unsafe { igvm_verdict(sheet.as_ptr(), sheet.len(), which) }
+        unsafe { igvm_verdict(pointer(sheet, which), sheet.len(), which) }
     }
 
     fn relocations(sheet: &[u8], mask: u32, words: &mut [u8], which: u32) -> u64 {
-        unsafe { igvm_relocations(sheet.as_ptr(), sheet.len(), mask, words.as_mut_ptr(), words.len(), which) }
+        let lent = if words.is_empty() && which % 2 == 1 { std::ptr::null_mut() } else { words.as_mut_ptr() };
+        unsafe { igvm_relocations(pointer(sheet, which), sheet.len(), mask, lent, words.len(), which) }
     }
 
     fn relocation_base_valid(sheet: &[u8], mask: u32, region: u64, base: u64, which: u32) -> u64 {
-        unsafe { igvm_relocation_base_valid(sheet.as_ptr(), sheet.len(), mask, region, base, which) }
+        unsafe { igvm_relocation_base_valid(pointer(sheet, which), sheet.len(), mask, region, base, which) }
     }
 
     fn contains(sheet: &[u8], mask: u32, region: u64, gpa: u64, which: u32) -> u64 {
-        unsafe { igvm_contains(sheet.as_ptr(), sheet.len(), mask, region, gpa, which) }
+        unsafe { igvm_contains(pointer(sheet, which), sheet.len(), mask, region, gpa, which) }
     }
 
     pub const CALLS: Calls = Calls { verdict, relocations, relocation_base_valid, contains };

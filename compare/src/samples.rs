@@ -49,9 +49,14 @@ pub fn one(digits: &str) -> Result<(), String> {
     if let Some(library) = LIBRARY {
         println!("library: {}", line(&library, &sheet));
     }
-    match Rust::of(&sheet).judged {
-        Some(judged) => println!("the Rust: {:?}", judged.numbers),
-        None => println!("the Rust: not on its domain"),
+    let Some(headers) = oracle::Headers::decode(&sheet) else {
+        println!("the Rust: no headers");
+        return Ok(());
+    };
+    let domain = if headers.in_domain() { "" } else { ", not on its domain" };
+    match headers.verdict() {
+        Ok(judged) => println!("the Rust{domain}: {:?}", judged.numbers),
+        Err(message) => println!("the Rust{domain}: panicked: {message}"),
     }
     Ok(())
 }

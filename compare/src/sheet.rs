@@ -156,7 +156,7 @@ impl Image {
         out
     }
 
-    /// The image of these bytes, if they have a head, a table and whole bodies.
+    /// The image of these bytes, if they have a head and a table. A body that ends early is as long as it is.
     pub fn parse(bytes: &[u8]) -> Option<Image> {
         let number = |at: usize, width: usize| {
             let part = bytes.get(at..at + width)?;
@@ -171,8 +171,9 @@ impl Image {
         for (list, count) in counts.into_iter().enumerate() {
             for _ in 0..count {
                 let (kind, length) = (number(entry, 4)? as u32, number(entry + 4, 4)?);
-                image.lists[list].push(Row { kind, body: bytes.get(at..at + length)?.to_vec() });
-                (entry, at) = (entry + 8, at + length);
+                let end = (at + length).min(bytes.len());
+                image.lists[list].push(Row { kind, body: bytes.get(at..end)?.to_vec() });
+                (entry, at) = (entry + 8, end);
             }
         }
         image.left_over = bytes.get(at..)?.to_vec();

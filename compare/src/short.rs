@@ -241,14 +241,15 @@ fn areas(each: Each) -> bool {
     })
 }
 
-/// An insert before, in and behind a page table, in and behind its used part.
+/// An insert before, in and behind a page table, in and behind its used part, of an area that is there or not.
 fn inserts(each: Each) -> bool {
     let masks: &[u64] = &[0, 1, 2, 3];
-    product(&[&[1, 2, 3], &[0, 1, 2, 3], &[0, 1, 2, 3, 4, 5, 6], &[1, 2, 3], masks], &mut |v| {
+    product(&[&[1, 2, 3], &[0, 1, 2, 3], &[0, 1, 2, 3, 4, 5, 6], &[1, 2, 3], masks, &[0, 1]], &mut |v| {
         let (size, used, page) = (0x1000 * v[0], 0x1000 * v[1], 0x1000 * v[2]);
         let table = Row::new(19, &[v[3], 0x2000, size, used, 0, 0]);
-        let directives = vec![Row::new(33, &[0x1000, 0]), Row::new(50, &[page, v[4], 0]), vbs(0, 3, 0)];
-        each(&Image::new(0, [vec![native()], vec![table, region(4, 0, 0x8000)], [directives, vec![vbs(0, 4, 0)]].concat()]).bytes())
+        let area = Row::new(33, &[0x1000, v[5]]);
+        let directives = vec![area, Row::new(50, &[page, v[4], 0]), vbs(0, 7, 0)];
+        each(&Image::new(0, [vec![native()], vec![table, region(4, 0, 0x8000)], directives]).bytes())
     })
 }
 

@@ -7,65 +7,69 @@ use crate::sheet::{fields, fields_length, Image};
 /// The difference on the smallest sheet and the simplest call that were found.
 pub fn smallest(calls: &Calls, difference: Difference) -> Difference {
     let mut best = difference;
-    loop {
-        let smaller = candidates(&best).into_iter().find_map(|(sheet, call)| {
-            let found = check(calls, &sheet, &Rust::of(&sheet), call).err()?;
-            (found.with_rust == best.with_rust).then_some(found)
-        });
-        match smaller {
-            Some(found) => best = found,
-            None => return best,
-        }
+    while let Some(found) = smaller(calls, &best) {
+        best = found;
     }
+    best
 }
 
-/// Sheets and calls that are smaller in some way, the greatest steps first.
-fn candidates(from: &Difference) -> Vec<(Vec<u8>, Call)> {
-    let mut sheets = match Image::parse(&from.sheet) {
-        Some(image) => images(&image).iter().map(Image::bytes).collect(),
-        None => Vec::new(),
+/// The first difference of the same sort on a sheet or call that is smaller in some way, the greatest steps first.
+fn smaller(calls: &Calls, from: &Difference) -> Option<Difference> {
+    let differs = |sheet: &[u8], call: Call| {
+        let found = check(calls, sheet, &Rust::of(sheet), call).err()?;
+        (found.with_rust == from.with_rust).then_some(found)
     };
-    sheets.extend(bytes(&from.sheet));
-    let mut all: Vec<_> = sheets.into_iter().filter(|sheet| *sheet != from.sheet).map(|sheet| (sheet, from.call)).collect();
-    all.extend(calls_below(from.call).into_iter().map(|call| (from.sheet.clone(), call)));
-    all
+    let image = Image::parse(&from.sheet);
+    let by_rows = image.iter().flat_map(|image| edits(image).into_iter().map(|edit| edited(image, &edit)));
+    let by_bytes = bytes(&from.sheet).into_iter();
+    let sheets = by_rows.chain(by_bytes).filter(|sheet| *sheet != from.sheet);
+    let on_sheets = sheets.filter_map(|sheet| differs(&sheet, from.call)).next();
+    on_sheets.or_else(|| calls_below(from.call).into_iter().find_map(|call| differs(&from.sheet, call)))
 }
 
-fn images(image: &Image) -> Vec<Image> {
-    let mut all = Vec::new();
-    let mut add = |change: &dyn Fn(&mut Image)| {
-        let mut smaller = image.clone();
-        change(&mut smaller);
-        if smaller != *image {
-            all.push(smaller);
-        }
-    };
-    add(&|i| i.left_over.clear());
-    add(&|i| (i.revision, i.arch, i.page_size) = (1, 0, 0));
-    for list in 0..3 {
-        let count = image.lists[list].len();
-        add(&|i| i.lists[list].truncate(count / 2));
-        add(&|i| drop(i.lists[list].drain(..count / 2)));
-        for at in 0..count {
-            add(&|i| drop(i.lists[list].remove(at)));
-        }
+/// A step towards a smaller image.
+enum Edit {
+    NoLeftOver,
+    PlainHead,
+    FirstHalf(usize),
+    SecondHalf(usize),
+    Drop(usize, usize),
+    Body(usize, usize, usize),
+    Field(usize, usize, &'static str, u64),
+}
+
+fn edits(image: &Image) -> Vec<Edit> {
+    let mut edits = vec![Edit::NoLeftOver, Edit::PlainHead];
+    for (list, rows) in image.lists.iter().enumerate() {
+        edits.extend([Edit::FirstHalf(list), Edit::SecondHalf(list)]);
+        edits.extend((0..rows.len()).map(|at| Edit::Drop(list, at)));
     }
-    for list in 0..3 {
-        for (at, row) in image.lists[list].iter().enumerate() {
-            let least = fields_length(row.kind);
-            add(&|i| i.lists[list][at].body.truncate(least));
-            if row.body.len() > least + 1 {
-                let shorter = row.body.len() - 1;
-                add(&|i| i.lists[list][at].body.truncate(shorter));
-            }
+    for (list, rows) in image.lists.iter().enumerate() {
+        for (at, row) in rows.iter().enumerate() {
+            let (least, length) = (fields_length(row.kind), row.body.len());
+            edits.extend([least, (least + length) / 2, length.saturating_sub(1)].map(|length| Edit::Body(list, at, length)));
             for (name, _) in fields(row.kind) {
-                for value in smaller_values(row.get(name).unwrap_or(0)) {
-                    add(&|i| i.lists[list][at].set(name, value));
-                }
+                let values = smaller_values(row.get(name).unwrap_or(0));
+                edits.extend(values.into_iter().map(|value| Edit::Field(list, at, name, value)));
             }
         }
     }
-    all
+    edits
+}
+
+/// The bytes of the image after a step; a body does not grow.
+fn edited(image: &Image, edit: &Edit) -> Vec<u8> {
+    let mut image = image.clone();
+    match *edit {
+        Edit::NoLeftOver => image.left_over.clear(),
+        Edit::PlainHead => (image.revision, image.arch, image.page_size) = (1, 0, 0),
+        Edit::FirstHalf(list) => image.lists[list].truncate(image.lists[list].len() / 2),
+        Edit::SecondHalf(list) => drop(image.lists[list].drain(..image.lists[list].len() / 2)),
+        Edit::Drop(list, at) => drop(image.lists[list].remove(at)),
+        Edit::Body(list, at, length) => image.lists[list][at].body.truncate(length),
+        Edit::Field(list, at, name, value) => image.lists[list][at].set(name, value),
+    }
+    image.bytes()
 }
 
 fn smaller_values(value: u64) -> Vec<u64> {
@@ -73,12 +77,12 @@ fn smaller_values(value: u64) -> Vec<u64> {
     simple.into_iter().chain([value / 2, value & value.wrapping_sub(1)]).filter(|&v| v < value).collect()
 }
 
-/// Without its last bytes, or with a byte set to 0. Only of short sheets.
+/// Without its last bytes; of a short sheet also with a byte set to 0.
 fn bytes(sheet: &[u8]) -> Vec<Vec<u8>> {
-    if sheet.len() > 400 {
-        return Vec::new();
-    }
     let mut all = vec![sheet[..sheet.len() / 2].to_vec(), sheet[..sheet.len().saturating_sub(1)].to_vec()];
+    if sheet.len() > 400 {
+        return all;
+    }
     for at in (0..sheet.len()).filter(|&at| sheet[at] != 0) {
         let mut zeroed = sheet.to_vec();
         zeroed[at] = 0;
