@@ -1,8 +1,8 @@
 //! Finds the library to compare. IGVM_LIB names the archive; without it, target/staticlib/libigvm.a of the repository.
 //! Where there is none, the program is built without it.
 
-use std::path::{Path, PathBuf};
 use std::env;
+use std::path::{Path, PathBuf};
 
 fn main() {
     println!("cargo:rerun-if-env-changed=IGVM_LIB");

@@ -34,26 +34,13 @@ const LIB: &[Cut] = &[
     Item("fn extract_individual_masks"),
     Methods(
         "IgvmFile",
-        &[
-            "validate_platform_headers",
-            "validate_initialization_headers",
-            "validate_directive_headers",
-            "new",
-            "relocations",
-        ],
+        &["validate_platform_headers", "validate_initialization_headers", "validate_directive_headers", "new", "relocations"],
     ),
 ];
 
-const HV_DEFS: &[Cut] = &[
-    Item("enum Vtl"),
-    Item("impl TryFrom<u8> for Vtl"),
-    Item("impl From<Vtl> for u8"),
-];
+const HV_DEFS: &[Cut] = &[Item("enum Vtl"), Item("impl TryFrom<u8> for Vtl"), Item("impl From<Vtl> for u8")];
 
-const PAGE_TABLE: &[Cut] = &[
-    Item("struct PageTableRelocationBuilder"),
-    Methods("PageTableRelocationBuilder", &["new"]),
-];
+const PAGE_TABLE: &[Cut] = &[Item("struct PageTableRelocationBuilder"), Methods("PageTableRelocationBuilder", &["new"])];
 
 const REGISTERS: &[Cut] = &[
     Item("struct TableRegister"),
@@ -63,12 +50,7 @@ const REGISTERS: &[Cut] = &[
     Item("struct UnsupportedRegister"),
 ];
 
-const FILES: &[(&str, &[Cut])] = &[
-    ("lib.rs", LIB),
-    ("hv_defs.rs", HV_DEFS),
-    ("page_table.rs", PAGE_TABLE),
-    ("registers.rs", REGISTERS),
-];
+const FILES: &[(&str, &[Cut])] = &[("lib.rs", LIB), ("hv_defs.rs", HV_DEFS), ("page_table.rs", PAGE_TABLE), ("registers.rs", REGISTERS)];
 
 fn main() {
     println!("cargo:rerun-if-env-changed=IGVM_SRC");

@@ -1,10 +1,8 @@
 //! The comparison must catch each wrong copy of paper.rs.
 
-use calls::Calls;
 use crate::compare::Difference;
-use crate::random::Random;
 use crate::run::{random_cases, Run};
-use crate::short;
+use calls::Calls;
 
 /// The first difference, in random sheets or else in the short ones, and where it was found.
 pub fn first_difference(calls: &Calls, seed: u64, cases: u64) -> Option<(String, Difference)> {
@@ -12,11 +10,6 @@ pub fn first_difference(calls: &Calls, seed: u64, cases: u64) -> Option<(String,
         return Some((format!("random sheet {case}"), difference));
     }
     let mut run = Run::new(calls);
-    let mut found = None;
-    short::every(&mut |sheet| {
-        let mut random = Random::new(seed, run.tally.cases);
-        found = run.sheet(&mut random, sheet).err();
-        found.is_none()
-    });
-    found.map(|difference| (format!("short sheet {}", run.tally.cases), difference))
+    let difference = run.short_sheets(seed).err()?;
+    Some((format!("short sheet {}", run.tally.cases), difference))
 }

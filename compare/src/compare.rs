@@ -1,7 +1,7 @@
 //! One sheet, one call, three answers: of the calls under test, of document 01 in Rust, and, on its domain, of the Rust itself.
 
-use calls::Calls;
 use crate::paper;
+use calls::Calls;
 use oracle::{Headers, Judged, Relocated};
 
 /// A call but for the sheet and `which`.

@@ -15,22 +15,8 @@ mod linked {
 
     extern "C" {
         fn igvm_verdict(sheet: *const u8, sheet_len: usize, which: u32) -> u64;
-        fn igvm_relocations(
-            sheet: *const u8,
-            sheet_len: usize,
-            mask: u32,
-            words: *mut u8,
-            words_len: usize,
-            which: u32,
-        ) -> u64;
-        fn igvm_relocation_base_valid(
-            sheet: *const u8,
-            sheet_len: usize,
-            mask: u32,
-            region: u64,
-            base: u64,
-            which: u32,
-        ) -> u64;
+        fn igvm_relocations(sheet: *const u8, sheet_len: usize, mask: u32, words: *mut u8, words_len: usize, which: u32) -> u64;
+        fn igvm_relocation_base_valid(sheet: *const u8, sheet_len: usize, mask: u32, region: u64, base: u64, which: u32) -> u64;
         fn igvm_contains(sheet: *const u8, sheet_len: usize, mask: u32, region: u64, gpa: u64, which: u32) -> u64;
     }
 

@@ -13,11 +13,11 @@ mod samples;
 mod sheet;
 mod short;
 mod shrink;
+mod speed;
 mod tally;
 
 use calls::Calls;
 use compare::{Call, Difference};
-use random::Random;
 use std::time::Instant;
 use tally::Tally;
 
@@ -32,17 +32,10 @@ struct Options {
 }
 
 const USAGE: &str = "compare [PART] [--cases N] [--seed N] [--threads N] [--backend library|paper] [FILE..]
-parts: all (samples, short, random, order, wrong), or one of these; emit N sheets with their lines; one HEX";
+parts: all (samples, short, random, order, wrong) or one of these, with the samples' folder; speed; emit; one HEX";
 
 fn options() -> Result<Options, String> {
-    let mut options = Options {
-        part: "all".into(),
-        cases: 5_000_000,
-        seed: 1,
-        threads: 1,
-        backend: "library".into(),
-        rest: Vec::new(),
-    };
+    let mut options = Options { part: "all".into(), cases: 5_000_000, seed: 1, threads: 1, backend: "library".into(), rest: Vec::new() };
     let mut words = std::env::args().skip(1);
     let mut positional = Vec::new();
     while let Some(word) = words.next() {
@@ -98,6 +91,7 @@ fn part(o: &Options) -> Result<(), String> {
         "random" => random_sheets(&calls, o).map(|tally| tally.print()),
         "order" => order::run(&calls, o.seed, o.cases),
         "wrong" => wrong_copies(o),
+        "speed" => speed::run(&calls, o.seed),
         "all" => all(&calls, o),
         _ => Err(USAGE.into()),
     }?;
@@ -135,13 +129,7 @@ fn report(calls: &Calls, place: &str, difference: Difference) -> String {
 fn short_sheets(calls: &Calls, o: &Options) -> Result<Tally, String> {
     let start = Instant::now();
     let mut run = run::Run::new(calls);
-    let mut found = None;
-    short::every(&mut |sheet| {
-        let mut random = Random::new(o.seed, run.tally.cases);
-        found = run.sheet(&mut random, sheet).err();
-        found.is_none()
-    });
-    if let Some(difference) = found {
+    if let Err(difference) = run.short_sheets(o.seed) {
         return Err(report(calls, &format!("short sheet {}", run.tally.cases), difference));
     }
     println!("short sheets: {} agree, {:.1?}", run.tally.cases, start.elapsed());

@@ -1,10 +1,10 @@
 //! Demand 3 by running: sheets reordered as it allows get the same answers, and each of its two order conditions is needed.
 
-use calls::Calls;
 use crate::compare::Call;
 use crate::generate;
 use crate::random::Random;
 use crate::sheet::{fields_length, Image, Row};
+use calls::Calls;
 
 /// A sheet, the same sheet reordered, and for each list where row i of the first stands in the second.
 struct Reordered {
@@ -39,9 +39,17 @@ pub fn run(calls: &Calls, seed: u64, cases: u64) -> Result<(), String> {
         swapped(calls, &mut random, &reordered.a, &mut counts);
     }
     let c = &counts;
-    println!("order: {} sheets reordered as demand 3 allows, {} of them accepted, agree; {} paired regions, {} bases", c.reordered, c.accepted, c.regions, c.bases);
+    println!(
+        "order: {} sheets reordered as demand 3 allows, {} of them accepted, agree; {} paired regions, {} bases",
+        c.reordered, c.accepted, c.regions, c.bases
+    );
     println!("  two platforms of one mask swapped: {} times, the verdict differs {} times", c.platform_swaps, c.platform_swaps_differ);
-    println!("  two directives of one area swapped: {} times, the verdict differs {} times; {:.1?}", c.area_swaps, c.area_swaps_differ, start.elapsed());
+    println!(
+        "  two directives of one area swapped: {} times, the verdict differs {} times; {:.1?}",
+        c.area_swaps,
+        c.area_swaps_differ,
+        start.elapsed()
+    );
     if c.accepted == 0 || c.accepted == c.reordered || c.platform_swaps_differ == 0 || c.area_swaps_differ == 0 {
         return Err("order: some of these counts may not be 0, and some sheets must be refused".into());
     }

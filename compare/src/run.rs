@@ -1,10 +1,10 @@
 //! Runs over many sheets: the stored samples, the short ones, and random ones.
 
-use calls::Calls;
 use crate::compare::{check, Call, Difference, Rust};
 use crate::random::Random;
 use crate::tally::Tally;
-use crate::{generate, plan};
+use crate::{generate, plan, short};
+use calls::Calls;
 
 /// The comparison of one sheet after another, with its counts.
 pub struct Run<'a> {
@@ -27,11 +27,39 @@ impl<'a> Run<'a> {
             0 => plan::some(random, sheet),
             _ => vec![plan::one(random)],
         };
-        for query in queries {
-            let number = check(self.calls, sheet, &rust, query)?;
+        self.ask(sheet, &rust, &queries)
+    }
+
+    /// A sheet with queries that were chosen beforehand.
+    fn queries(&mut self, sheet: &[u8], queries: &[Call]) -> Result<(), Difference> {
+        let rust = Rust::of(sheet);
+        let number = check(self.calls, sheet, &rust, Call::Verdict)?;
+        self.count(&rust, number);
+        self.ask(sheet, &rust, queries)
+    }
+
+    fn ask(&mut self, sheet: &[u8], rust: &Rust, queries: &[Call]) -> Result<(), Difference> {
+        for &query in queries {
+            let number = check(self.calls, sheet, rust, query)?;
             self.tally.queries[number as usize] += 1;
         }
         Ok(())
+    }
+
+    /// Every short sheet, up to the first difference.
+    pub fn short_sheets(&mut self, seed: u64) -> Result<(), Difference> {
+        let mut ended = Ok(());
+        short::every(&mut |sheet| {
+            ended = self.sheet(&mut Random::new(seed, self.tally.cases), sheet);
+            ended.is_ok()
+        });
+        ended?;
+        let mut ended = Ok(());
+        short::every_base(&mut |sheet, queries| {
+            ended = self.queries(sheet, queries);
+            ended.is_ok()
+        });
+        ended
     }
 
     fn count(&mut self, rust: &Rust, number: u64) {

@@ -1,10 +1,10 @@
 //! Stored sheets, sheets for other programs, and single sheets.
 
-use crate::library::LIBRARY;
-use calls::Calls;
 use crate::compare::{check, Call, Rust};
+use crate::library::LIBRARY;
 use crate::random::Random;
 use crate::{generate, line, paper, plan};
+use calls::Calls;
 use std::fs;
 use std::path::Path;
 

@@ -6,17 +6,9 @@ pub fn fields(kind: u32) -> &'static [(&'static str, usize)] {
         1 => &[("mask", 4), ("highest_vtl", 1), ("type", 1), ("version", 2), ("boundary", 8)],
         16 => &[("policy", 8), ("mask", 4)],
         17 => &[("mask", 4), ("zeroes", 8), ("ones", 8)],
-        18 => &[
-            ("mask", 4),
-            ("alignment", 8),
-            ("gpa", 8),
-            ("size", 8),
-            ("minimum", 8),
-            ("maximum", 8),
-            ("flags", 1),
-            ("vp", 2),
-            ("vtl", 1),
-        ],
+        18 => {
+            &[("mask", 4), ("alignment", 8), ("gpa", 8), ("size", 8), ("minimum", 8), ("maximum", 8), ("flags", 1), ("vp", 2), ("vtl", 1)]
+        }
         19 => &[("mask", 4), ("gpa", 8), ("size", 8), ("used", 8), ("vp", 2), ("vtl", 1)],
         32 => &[("gpa", 8), ("mask", 4), ("flags", 4), ("type", 2)],
         33 => &[("bytes", 8), ("area", 4)],

@@ -1,5 +1,6 @@
 //! Short sheets, all of them of each sort: strings of few bytes, heads, one row with small fields, pairs of regions, sequences of areas.
 
+use crate::compare::Call;
 use crate::generate::TOP;
 use crate::sheet::{fields, fields_length, is_open, kinds, list_of, Image, Row};
 
@@ -136,9 +137,8 @@ fn platforms_and_policy(each: Each) -> bool {
 
 /// A platform, one initialization row with small fields, and a context.
 fn one_initialization(each: Each) -> bool {
-    let mut with_context = |arch: u64, row: Row| {
-        each(&Image::new(arch as u8, [vec![vsm(1)], vec![row], vec![vbs(arch as u8, 1, 0)]]).bytes())
-    };
+    let mut with_context =
+        |arch: u64, row: Row| each(&Image::new(arch as u8, [vec![vsm(1)], vec![row], vec![vbs(arch as u8, 1, 0)]]).bytes());
     let policies = product(&[&[0, 1], &[0, u64::MAX], &[0, 1, 2, 3]], &mut |v| with_context(v[0], Row::new(16, &v[1..])));
     let regions: [&[u64]; 10] = [
         &[0],
@@ -335,4 +335,28 @@ fn limits(each: Each) -> bool {
             image.lists[2][1].body.resize(5 + missing, 0);
             each(&image.bytes()) && each(&vec![0; length])
         })
+}
+
+// ---- queries
+
+/// Two small regions with every alignment, size, minimum and maximum of few pages, each with every base and address of few pages.
+pub fn every_base(each: &mut dyn FnMut(&[u8], &[Call]) -> bool) -> bool {
+    let (alignments, pages): (&[u64], &[u64]) = (&[0x1000, 0x2000, 0x3000], &[0, 1, 2, 3, 4, 6]);
+    let places: Vec<u64> = (0..17).map(|n| 0x800 * n).chain([u64::MAX, TOP, TOP - 0x1000]).collect();
+    let lengths = [0, 7, 8, 56, 63, 64, 65, 71, 72, 127, 128, 135];
+    let mut queries = Vec::new();
+    for mask in 0..4 {
+        queries.extend(lengths.map(|lent| Call::Relocations { mask, lent }));
+        for region in 0..3 {
+            queries.extend(places.iter().map(|&base| Call::BaseValid { mask, region, base }));
+            queries.extend(places.iter().map(|&gpa| Call::Contains { mask, region, gpa }));
+        }
+    }
+    product(&[alignments, &[1, 2, 3], pages, pages, &[1, 2, 3]], &mut |v| {
+        let [alignment, size, minimum, maximum, mask] = [v[0], 0x1000 * v[1], v[0] * v[2], v[0] * v[3], v[4]];
+        let first = Row::new(18, &[mask, alignment, 0x6000, size, minimum, maximum, 5, 0, 0]);
+        let second = Row::new(18, &[1, 0x1000, 0, 0x1000, 0, 0x8000, 2, 0, 1]);
+        let directives = vec![vbs(0, 3, 0), vbs(0, 1, 1)];
+        each(&Image::new(0, [vec![native()], vec![first, second], directives]).bytes(), &queries)
+    })
 }

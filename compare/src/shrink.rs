@@ -1,8 +1,8 @@
 //! The smallest sheet near a given one on which two answers still differ: rows dropped, opaque bytes cut, fields set to 0.
 
-use calls::Calls;
 use crate::compare::{check, Call, Difference, Rust};
 use crate::sheet::{fields, fields_length, Image};
+use calls::Calls;
 
 /// The difference on the smallest sheet and the simplest call that were found.
 pub fn smallest(calls: &Calls, difference: Difference) -> Difference {
@@ -96,7 +96,11 @@ fn calls_below(call: Call) -> Vec<Call> {
         Call::Verdict => vec![],
         Call::Relocations { mask, lent } => {
             let masks = smaller_values(u64::from(mask)).into_iter().map(|mask| Call::Relocations { mask: mask as u32, lent });
-            masks.chain([0, lent / 2, lent.saturating_sub(64)].into_iter().filter(|&l| l < lent).map(|lent| Call::Relocations { mask, lent })).collect()
+            masks
+                .chain(
+                    [0, lent / 2, lent.saturating_sub(64)].into_iter().filter(|&l| l < lent).map(|lent| Call::Relocations { mask, lent }),
+                )
+                .collect()
         }
         Call::BaseValid { mask, region, base } => {
             let masks = smaller_values(u64::from(mask)).into_iter().map(|mask| Call::BaseValid { mask: mask as u32, region, base });

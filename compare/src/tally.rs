@@ -21,14 +21,7 @@ pub struct Tally {
 
 impl Default for Tally {
     fn default() -> Self {
-        Tally {
-            cases: 0,
-            with_rust: 0,
-            verdicts: [0; 38],
-            rust_verdicts: [0; 38],
-            queries: [0; 38],
-            names_other_kind: 0,
-        }
+        Tally { cases: 0, with_rust: 0, verdicts: [0; 38], rust_verdicts: [0; 38], queries: [0; 38], names_other_kind: 0 }
     }
 }
 

@@ -184,11 +184,7 @@ fn directive(kind: u32, body: &mut Bytes) -> Option<IgvmDirectiveHeader> {
             data_type: IgvmPageDataType(body.u16()?),
             data: vec![0; body.rest()],
         },
-        33 => ParameterArea {
-            number_of_bytes: body.u64()?,
-            parameter_area_index: body.u32()?,
-            initial_data: vec![0; body.rest()],
-        },
+        33 => ParameterArea { number_of_bytes: body.u64()?, parameter_area_index: body.u32()?, initial_data: vec![0; body.rest()] },
         34..=43 => parameter(kind)(IGVM_VHS_PARAMETER { parameter_area_index: body.u32()?, byte_offset: body.u32()? }),
         44 => RequiredMemory {
             gpa: body.u64()?,
@@ -223,16 +219,8 @@ fn context(kind: u32, body: &mut Bytes) -> Option<IgvmDirectiveHeader> {
     let header = match kind {
         45 => SnpVpContext { gpa, compatibility_mask, vp_index: body.u16()?, vmsa: Box::default() },
         46 => X64NativeVpContext { compatibility_mask, vp_index: body.u16()?, context: Box::default() },
-        47 => X64VbsVpContext {
-            compatibility_mask,
-            vtl: body.vtl()?,
-            registers: vec![X86Register::Rip(0); body.rest() / 32],
-        },
-        48 => AArch64VbsVpContext {
-            compatibility_mask,
-            vtl: body.vtl()?,
-            registers: vec![AArch64Register::Pc(0); body.rest() / 32],
-        },
+        47 => X64VbsVpContext { compatibility_mask, vtl: body.vtl()?, registers: vec![X86Register::Rip(0); body.rest() / 32] },
+        48 => AArch64VbsVpContext { compatibility_mask, vtl: body.vtl()?, registers: vec![AArch64Register::Pc(0); body.rest() / 32] },
         _ => AArch64CcaVpContext { compatibility_mask, vp_index: body.u16()?, context: Box::default() },
     };
     body.rest();
