@@ -312,7 +312,7 @@ fn relate_regions(random: &mut Random, image: &mut Image) {
         return add_row(random, image);
     }
     let (a, b) = (random.pick(&regions), random.pick(&regions));
-    let of = |at: usize, name: &str| image.lists[1][at].get(name).unwrap();
+    let of = |at: usize, name: &str| image.lists[1][at].get(name).unwrap_or(0);
     let (gpa, size, own) = (of(a, "gpa"), of(a, "size"), of(b, "size"));
     let there = random.pick(&[
         gpa,

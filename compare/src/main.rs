@@ -66,11 +66,8 @@ fn backend(name: &str) -> Result<Calls, String> {
 }
 
 fn main() {
-    // the Rust's panics are caught and reported as differences
-    std::panic::set_hook(Box::new(|_| {}));
-    let ended = options().and_then(|options| part(&options));
-    let _ = std::panic::take_hook();
-    if let Err(message) = ended {
+    oracle::silence_panics();
+    if let Err(message) = options().and_then(|options| part(&options)) {
         println!("{message}\nFAILED");
         std::process::exit(1);
     }

@@ -1,7 +1,34 @@
 //! From the Rust's answers to document 01's numbers.
 
 use crate::*;
-use std::panic::{catch_unwind, AssertUnwindSafe};
+use std::cell::Cell;
+use std::panic::{catch_unwind, set_hook, take_hook, AssertUnwindSafe};
+
+thread_local! {
+    /// The Rust is being asked, and a panic is its answer.
+    static ASKED: Cell<bool> = const { Cell::new(false) };
+}
+
+/// From here on a panic of the Rust prints nothing. Any other panic prints what it did before.
+pub fn silence_panics() {
+    let before = take_hook();
+    set_hook(Box::new(move |info| {
+        if !ASKED.get() {
+            before(info);
+        }
+    }));
+}
+
+/// The Rust's answer, or what it said when it panicked.
+fn ask<T>(question: impl FnOnce() -> T) -> Result<T, String> {
+    ASKED.set(true);
+    let answer = catch_unwind(AssertUnwindSafe(question));
+    ASKED.set(false);
+    answer.map_err(|reason| {
+        let text = reason.downcast_ref::<String>().map(String::as_str);
+        text.or(reason.downcast_ref::<&str>().copied()).unwrap_or("no message").to_string()
+    })
+}
 
 /// The Rust's verdict on headers.
 pub struct Judged {
@@ -60,10 +87,7 @@ impl Headers {
 
     /// The verdict, or what the Rust said when it panicked.
     pub fn verdict(&self) -> Result<Judged, String> {
-        catch_unwind(AssertUnwindSafe(|| self.judged())).map_err(|reason| {
-            let text = reason.downcast_ref::<String>().map(String::as_str);
-            text.or(reason.downcast_ref::<&str>().copied()).unwrap_or("no message").to_string()
-        })
+        ask(|| self.judged())
     }
 
     fn new_of(&self, platforms: usize, initializations: usize, directives: usize) -> Result<IgvmFile, Error> {
@@ -198,8 +222,7 @@ fn directive_number(error: &BinaryHeaderError) -> Says {
 impl Relocated {
     /// `relocations` of an accepted file, or what the Rust said when it panicked.
     pub fn of(file: &IgvmFile, mask: u32) -> Result<Relocated, String> {
-        let answer = catch_unwind(AssertUnwindSafe(|| file.relocations(mask)));
-        let (regions, builder) = answer.map_err(|_| "relocations panicked".to_string())?;
+        let (regions, builder) = ask(|| file.relocations(mask))?;
         let numbers = |b: PageTableRelocationBuilder| [b.gpa, b.size, b.used_size, u64::from(b.vp_index), b.vtl as u64];
         Ok(Relocated { regions: regions.unwrap_or_default(), page_table: builder.map(numbers) })
     }
