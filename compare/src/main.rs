@@ -1,0 +1,174 @@
+//! Compares the calls of the library with the Rust of crate igvm 0.5.0 and with document 01. README.md says how to run it.
+
+mod caught;
+mod compare;
+mod generate;
+mod library;
+mod order;
+mod paper;
+mod plan;
+mod random;
+mod run;
+mod samples;
+mod sheet;
+mod short;
+mod shrink;
+mod speed;
+mod tally;
+
+use calls::Calls;
+use compare::{Call, Difference};
+use std::time::Instant;
+use tally::Tally;
+
+/// What the command line says.
+struct Options {
+    part: String,
+    cases: u64,
+    seed: u64,
+    threads: usize,
+    backend: String,
+    rest: Vec<String>,
+}
+
+const USAGE: &str = "compare [PART] [--cases N] [--seed N] [--threads N] [--backend library|paper] [FILE..]
+parts: all (samples, short, random, order, wrong) or one of these, with the samples' folder; speed; emit; one HEX";
+
+fn options() -> Result<Options, String> {
+    let mut options = Options { part: "all".into(), cases: 5_000_000, seed: 1, threads: 1, backend: "library".into(), rest: Vec::new() };
+    let mut words = std::env::args().skip(1);
+    let mut positional = Vec::new();
+    while let Some(word) = words.next() {
+        let mut value = || words.next().ok_or(format!("{word} needs a value"));
+        let number = |text: String| text.replace('_', "").parse::<u64>().map_err(|e| format!("{text}: {e}"));
+        match word.as_str() {
+            "--cases" => options.cases = number(value()?)?,
+            "--seed" => options.seed = number(value()?)?,
+            "--threads" => options.threads = number(value()?)?.max(1) as usize,
+            "--backend" => options.backend = value()?,
+            _ if word.starts_with('-') => return Err(format!("{word}?\n{USAGE}")),
+            _ => positional.push(word),
+        }
+    }
+    if !positional.is_empty() {
+        options.part = positional.remove(0);
+    }
+    options.rest = positional;
+    Ok(options)
+}
+
+fn backend(name: &str) -> Result<Calls, String> {
+    match name {
+        "library" => library::LIBRARY.ok_or("built without libigvm.a: see IGVM_LIB in README.md, or give --backend paper".into()),
+        "paper" => Ok(paper::CALLS),
+        _ => Err(format!("no backend {name}\n{USAGE}")),
+    }
+}
+
+fn main() {
+    oracle::silence_panics();
+    if let Err(message) = options().and_then(|options| part(&options)) {
+        println!("{message}\nFAILED");
+        std::process::exit(1);
+    }
+}
+
+fn part(o: &Options) -> Result<(), String> {
+    match o.part.as_str() {
+        "emit" => return samples::emit(o.seed, o.cases),
+        "one" => return samples::one(o.rest.first().ok_or(USAGE)?),
+        _ => {}
+    }
+    let calls = backend(&o.backend)?;
+    print!("the Rust, cut from\n{}", oracle::ORIGIN);
+    println!("compared: {}", o.backend);
+    match o.part.as_str() {
+        "samples" => samples::replay(&calls, o.rest.first().ok_or(USAGE)?),
+        "short" => short_sheets(&calls, o).map(|tally| tally.print()),
+        "random" => random_sheets(&calls, o).map(|tally| tally.print()),
+        "order" => order::run(&calls, o.seed, o.cases),
+        "wrong" => wrong_copies(o),
+        "speed" => speed::run(&calls, o.seed),
+        "all" => all(&calls, o),
+        _ => Err(USAGE.into()),
+    }?;
+    println!("PASSED");
+    Ok(())
+}
+
+fn all(calls: &Calls, o: &Options) -> Result<(), String> {
+    if let Some(folder) = o.rest.first() {
+        samples::replay(calls, folder)?;
+    }
+    let mut tally = short_sheets(calls, o)?;
+    tally.add(&random_sheets(calls, o)?);
+    tally.print();
+    every_refusal(&tally)?;
+    order::run(calls, o.seed, o.cases / 20)?;
+    wrong_copies(o)
+}
+
+/// Every refusal was met, and every one of the Rust's domain in a comparison with the Rust.
+fn every_refusal(tally: &Tally) -> Result<(), String> {
+    let (missing, missing_with_rust) = (tally.missing(), tally.missing_with_rust());
+    if !missing.is_empty() || !missing_with_rust.is_empty() {
+        return Err(format!("refusals that were not met: {missing:?}, with the Rust: {missing_with_rust:?}"));
+    }
+    println!("every refusal from 1 to 37 was met, and every one of the Rust's domain with the Rust");
+    Ok(())
+}
+
+fn report(calls: &Calls, place: &str, difference: Difference) -> String {
+    let smallest = shrink::smallest(calls, difference.clone());
+    format!("DIFFERENCE in {place}\n{}\nsmallest:\n{}", shrink::text(&difference), shrink::text(&smallest))
+}
+
+fn short_sheets(calls: &Calls, o: &Options) -> Result<Tally, String> {
+    let start = Instant::now();
+    let mut run = run::Run::new(calls);
+    if let Err(difference) = run.short_sheets(o.seed) {
+        return Err(report(calls, &format!("short sheet {}", run.tally.cases), difference));
+    }
+    println!("short sheets: {} agree, {:.1?}", run.tally.cases, start.elapsed());
+    Ok(run.tally)
+}
+
+fn random_sheets(calls: &Calls, o: &Options) -> Result<Tally, String> {
+    let start = Instant::now();
+    let (tally, found) = run::random_threads(calls, o.seed, o.threads, o.cases);
+    if let Some((case, difference)) = found {
+        return Err(report(calls, &format!("random sheet {case} of seed {}", o.seed), difference));
+    }
+    println!("random sheets: {} agree, seed {}, {:.1?}", tally.cases, o.seed, start.elapsed());
+    Ok(tally)
+}
+
+/// Every wrong copy is caught.
+fn wrong_copies(o: &Options) -> Result<(), String> {
+    let start = Instant::now();
+    let mut missed = Vec::new();
+    for (name, what, calls) in wrong::WRONG {
+        match caught::first_difference(calls, o.seed, o.cases.min(200_000)) {
+            Some((place, difference)) => {
+                let smallest = shrink::smallest(calls, difference);
+                let by = if smallest.with_rust { "the Rust" } else { "document 01" };
+                println!("caught {name} ({what}): {place}, by {by}; {} bytes, {:?}", smallest.sheet.len(), smallest.call);
+            }
+            None => missed.push(*name),
+        }
+    }
+    println!("{} wrong copies, {} not caught, {:.1?}", wrong::WRONG.len(), missed.len(), start.elapsed());
+    if missed.is_empty() {
+        return Ok(());
+    }
+    Err(format!("wrong copies that were not caught: {missed:?}"))
+}
+
+/// The line that `admit` writes of a verdict.
+fn line(calls: &Calls, sheet: &[u8]) -> String {
+    let [number, row, detail, p, i, d] = [0, 1, 2, 3, 4, 5].map(|which| Call::Verdict.ask(calls, sheet, &mut [], which));
+    match number {
+        0 => format!("accepted {p} {i} {d}"),
+        _ => format!("refused {number} row {row} detail {detail}"),
+    }
+}

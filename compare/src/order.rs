@@ -1,0 +1,273 @@
+//! Demand 3 by running: sheets reordered as it allows get the same answers, and each of its two order conditions is needed.
+
+use crate::compare::Call;
+use crate::generate;
+use crate::random::Random;
+use crate::sheet::{fields_length, Image, Row};
+use calls::Calls;
+
+/// A sheet, the same sheet reordered, and for each list where row i of the first stands in the second.
+struct Reordered {
+    a: Image,
+    b: Image,
+    to: [Vec<usize>; 3],
+}
+
+#[derive(Default)]
+struct Counts {
+    reordered: u64,
+    accepted: u64,
+    regions: u64,
+    bases: u64,
+    platform_swaps: u64,
+    platform_swaps_differ: u64,
+    area_swaps: u64,
+    area_swaps_differ: u64,
+}
+
+pub fn run(calls: &Calls, seed: u64, cases: u64) -> Result<(), String> {
+    let start = std::time::Instant::now();
+    let mut counts = Counts::default();
+    for case in 0..cases {
+        let mut random = Random::new(seed ^ 0x6F72_6465_7200, case);
+        let image = readable_image(&mut random);
+        let reordered = reorder(&mut random, image);
+        same_answers(calls, &mut random, &reordered, &mut counts).map_err(|what| {
+            let [a, b] = [&reordered.a, &reordered.b].map(|image| hex(&image.bytes()));
+            format!("order, case {case}: {what}\n  a: {a}\n  b: {b}")
+        })?;
+        swapped(calls, &mut random, &reordered.a, &mut counts);
+    }
+    let c = &counts;
+    println!(
+        "order: {} sheets reordered as demand 3 allows, {} of them accepted, agree; {} paired regions, {} bases",
+        c.reordered, c.accepted, c.regions, c.bases
+    );
+    println!("  two platforms of one mask swapped: {} times, the verdict differs {} times", c.platform_swaps, c.platform_swaps_differ);
+    println!(
+        "  two directives of one area swapped: {} times, the verdict differs {} times; {:.1?}",
+        c.area_swaps,
+        c.area_swaps_differ,
+        start.elapsed()
+    );
+    if c.accepted == 0 || c.accepted == c.reordered || c.platform_swaps_differ == 0 || c.area_swaps_differ == 0 {
+        return Err("order: some of these counts may not be 0, and some sheets must be refused".into());
+    }
+    Ok(())
+}
+
+/// An image, changed or not, that is readable.
+fn readable_image(random: &mut Random) -> Image {
+    loop {
+        let mut image = generate::image(random);
+        for _ in 0..random.pick(&[0, 0, 0, 1, 2]) {
+            generate::change(random, &mut image);
+        }
+        if image.counts.is_none() && oracle::Headers::decode(&image.bytes()).is_some() {
+            return image;
+        }
+    }
+}
+
+// ---- reordering
+
+/// Which rows keep their order: platform rows of equal mask, and directive rows naming one area.
+fn tie(list: usize, row: &Row) -> Option<u64> {
+    match list {
+        0 => row.get("mask"),
+        1 => None,
+        _ => row.area(),
+    }
+}
+
+fn reorder(random: &mut Random, a: Image) -> Reordered {
+    let mut b = a.clone();
+    let to = [0, 1, 2].map(|list| {
+        let order = allowed_order(random, list, &a.lists[list]);
+        b.lists[list] = order.iter().map(|&at| with_other_bytes(random, &a.lists[list][at])).collect();
+        let mut to = vec![0; order.len()];
+        for (place, &at) in order.iter().enumerate() {
+            to[at] = place;
+        }
+        to
+    });
+    Reordered { a, b, to }
+}
+
+/// A random order of the rows in which tied rows stand as they did: among the places that tied rows got, they are sorted.
+fn allowed_order(random: &mut Random, list: usize, rows: &[Row]) -> Vec<usize> {
+    let mut order: Vec<usize> = (0..rows.len()).collect();
+    random.shuffle(&mut order);
+    let ties: Vec<Option<u64>> = rows.iter().map(|row| tie(list, row)).collect();
+    for first in 0..rows.len() {
+        if ties[first].is_none() || ties[..first].contains(&ties[first]) {
+            continue;
+        }
+        let places: Vec<usize> = (0..order.len()).filter(|&place| ties[order[place]] == ties[first]).collect();
+        let tied = (0..rows.len()).filter(|&at| ties[at] == ties[first]);
+        for (place, at) in places.into_iter().zip(tied) {
+            order[place] = at;
+        }
+    }
+    order
+}
+
+/// The row with other data and opaque bytes of the same length.
+fn with_other_bytes(random: &mut Random, row: &Row) -> Row {
+    let mut other = row.clone();
+    for byte in &mut other.body[fields_length(row.kind)..] {
+        *byte = random.next() as u8;
+    }
+    other
+}
+
+// ---- the same answers
+
+fn number(calls: &Calls, sheet: &[u8], call: Call, which: u32) -> u64 {
+    call.ask(calls, sheet, &mut [], which)
+}
+
+fn is_accepted(calls: &Calls, sheet: &[u8]) -> bool {
+    number(calls, sheet, Call::Verdict, 0) == 0
+}
+
+fn same_answers(calls: &Calls, random: &mut Random, r: &Reordered, counts: &mut Counts) -> Result<(), String> {
+    let (a, b) = (r.a.bytes(), r.b.bytes());
+    counts.reordered += 1;
+    if (1..=6).contains(&number(calls, &b, Call::Verdict, 0)) {
+        return Err("the reordered sheet is not readable".into());
+    }
+    if is_accepted(calls, &a) != is_accepted(calls, &b) {
+        return Err("one is accepted, the other is not".into());
+    }
+    if !is_accepted(calls, &a) {
+        return Ok(());
+    }
+    counts.accepted += 1;
+    for mask in masks(random, &r.a) {
+        if let Some((words_a, words_b)) = same_list(calls, random, mask, &a, &b)? {
+            sound(&r.a, mask, &words_a, calls, &a)?;
+            for i in (0..r.a.lists[1].len()).filter(|&i| is_region(&r.a.lists[1][i], mask)) {
+                let (n, m) = (number_in(&r.a, mask, i), number_in(&r.b, mask, r.to[1][i]));
+                counts.regions += 1;
+                if words_a[64 * n..64 * n + 64] != words_b[64 * m..64 * m + 64] {
+                    return Err(format!("mask {mask}: regions {n} and {m} have other words"));
+                }
+                counts.bases += same_bases(calls, mask, (&a, n), (&b, m), &bases(random, &r.a.lists[1][i]))?;
+            }
+        }
+    }
+    Ok(())
+}
+
+/// The base check of paired regions, each by its number in its own sheet, says the same. Gives the number of bases.
+fn same_bases(calls: &Calls, mask: u32, a: (&[u8], usize), b: (&[u8], usize), bases: &[u64]) -> Result<u64, String> {
+    for &base in bases {
+        let check = |(sheet, region): (&[u8], usize), which: u32| {
+            number(calls, sheet, Call::BaseValid { mask, region: region as u64, base }, which)
+        };
+        if (0..4).any(|which| check(a, which) != check(b, which)) {
+            return Err(format!("mask {mask}: base {base:#x} of regions {} and {}", a.1, b.1));
+        }
+    }
+    Ok(bases.len() as u64)
+}
+
+fn masks(random: &mut Random, image: &Image) -> Vec<u32> {
+    let of_rows: Vec<u32> = image.lists[1].iter().filter_map(|row| row.get("mask")).map(|mask| mask as u32).collect();
+    let mut masks = vec![1 << random.below(32)];
+    if !of_rows.is_empty() {
+        let mask = random.pick(&of_rows);
+        masks.extend([mask, mask & mask.wrapping_neg(), mask | random.pick(&of_rows)]);
+    }
+    masks.retain(|&mask| mask != 0);
+    masks
+}
+
+/// Row i is one of the mask's regions.
+fn is_region(row: &Row, mask: u32) -> bool {
+    row.kind == 18 && row.get("mask").unwrap() as u32 & mask == mask
+}
+
+/// The number of initialization row i among the mask's regions.
+fn number_in(image: &Image, mask: u32, i: usize) -> usize {
+    image.lists[1][..i].iter().filter(|row| is_region(row, mask)).count()
+}
+
+/// With equally many words lent both end in 37, or both give the same count and page table. Gives the lent bytes where they hold the regions.
+fn same_list(calls: &Calls, random: &mut Random, mask: u32, a: &[u8], b: &[u8]) -> Result<Option<(Vec<u8>, Vec<u8>)>, String> {
+    let words = random.pick(&[0, 8, 16, 512, 512, 512]);
+    let mut lend = || {
+        let length = 8 * words + random.below(8);
+        random.bytes(length)
+    };
+    let list = |sheet: &[u8], mut lent: Vec<u8>| {
+        let numbers = [0, 1, 2, 3, 4, 5, 6, 7, 8, 9].map(|which| (calls.relocations)(sheet, mask, &mut lent, which));
+        (numbers, lent)
+    };
+    let (numbers_a, words_a) = list(a, lend());
+    let (numbers_b, words_b) = list(b, lend());
+    if numbers_a != numbers_b {
+        return Err(format!("mask {mask}, {words} words: {numbers_a:?} and {numbers_b:?}"));
+    }
+    Ok((numbers_a[0] == 0).then_some((words_a, words_b)))
+}
+
+/// No address lies in two of the mask's regions, page table included, and each has VP index 0 and a VBS context of its VTL that shares a bit.
+fn sound(image: &Image, mask: u32, words: &[u8], calls: &Calls, sheet: &[u8]) -> Result<(), String> {
+    let word = |at: usize| u64::from_le_bytes(words[8 * at..8 * at + 8].try_into().unwrap());
+    let found = |which: u32| (calls.relocations)(sheet, mask, &mut words.to_vec(), which);
+    let mut ranges: Vec<(u64, u64)> = (0..found(3) as usize).map(|n| (word(8 * n), word(8 * n + 1))).collect();
+    if found(4) == 1 {
+        ranges.push((found(5), found(6)));
+    }
+    ranges.sort_unstable();
+    if ranges.windows(2).any(|pair| pair[0].0 + pair[0].1 > pair[1].0) {
+        return Err(format!("mask {mask}: an address lies in two regions"));
+    }
+    let of = |row: &Row, name: &str| row.get(name).unwrap();
+    let matching = |row: &&Row| matches!(row.kind, 18 | 19) && of(row, "mask") as u32 & mask == mask;
+    for row in image.lists[1].iter().filter(matching) {
+        let shares = |c: &Row| matches!(c.kind, 47 | 48) && of(c, "vtl") == of(row, "vtl") && of(c, "mask") & of(row, "mask") != 0;
+        if of(row, "vp") != 0 || !image.lists[2].iter().any(shares) {
+            return Err(format!("mask {mask}: a region has another VP index than 0, or no context"));
+        }
+    }
+    Ok(())
+}
+
+fn bases(random: &mut Random, row: &Row) -> [u64; 5] {
+    let of = |name: &str| row.get(name).unwrap();
+    let last = of("maximum").wrapping_sub(of("size"));
+    let near = random.pick(&[of("minimum"), last]);
+    [of("minimum"), last, near.wrapping_add(of("alignment")), near.wrapping_sub(of("alignment")), random.next()]
+}
+
+// ---- what demand 3 does not allow
+
+/// Swaps two platforms of one mask, and two directives of one area, where there are such, and counts how often the verdict differs.
+fn swapped(calls: &Calls, random: &mut Random, image: &Image, counts: &mut Counts) {
+    for list in [0, 2] {
+        let rows = &image.lists[list];
+        let tied = |i: usize, j: usize| tie(list, &rows[i]).is_some() && tie(list, &rows[i]) == tie(list, &rows[j]);
+        let pairs: Vec<(usize, usize)> =
+            (0..rows.len()).flat_map(|i| (0..i).map(move |j| (j, i))).filter(|&(j, i)| tied(j, i) && rows[i] != rows[j]).collect();
+        if pairs.is_empty() {
+            continue;
+        }
+        let (i, j) = random.pick(&pairs);
+        let mut other = image.clone();
+        other.lists[list].swap(i, j);
+        let differs = u64::from(is_accepted(calls, &image.bytes()) != is_accepted(calls, &other.bytes()));
+        let (swaps, differ) = match list {
+            0 => (&mut counts.platform_swaps, &mut counts.platform_swaps_differ),
+            _ => (&mut counts.area_swaps, &mut counts.area_swaps_differ),
+        };
+        *swaps += 1;
+        *differ += differs;
+    }
+}
+
+fn hex(bytes: &[u8]) -> String {
+    bytes.iter().map(|byte| format!("{byte:02x}")).collect()
+}

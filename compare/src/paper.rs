@@ -1,0 +1,456 @@
+// Document 01 in plain Rust, in its order, with the refusal's number beside each test. It is written for reading, not for speed.
+// It is what the calls are compared with where the Rust has no answer: 1 to 6, 19, 27, 28, 35 to 37.
+// mutations.txt edits this text: each wrong copy must be caught.
+
+use calls::Calls;
+
+/// A refusal: number, row (0 for the whole) and detail.
+#[derive(Clone, Copy, Debug, PartialEq, Eq)]
+pub struct Refusal(pub u64, pub u64, pub u64);
+
+type Checked = Result<(), Refusal>;
+
+fn refuse(test: bool, number: u64, row: u64, detail: u64) -> Checked {
+    if test {
+        return Err(Refusal(number, row, detail));
+    }
+    Ok(())
+}
+
+const PAGE: u64 = 4096;
+const X64: u64 = 0;
+const AARCH64: u64 = 1;
+const VSM_ISOLATION: u64 = 1;
+const CCA: u64 = 6;
+
+// ---- the sheet
+
+const ROW_LIMITS: [u64; 3] = [16, 64, 1024];
+const BYTE_LIMIT: usize = 16_777_216;
+
+/// Of a kind: its list, the least length of its body, and whether that length is exact.
+fn kind_rule(kind: u64) -> Option<(usize, usize, bool)> {
+    Some(match kind {
+        1 => (0, 16, true),
+        16 => (1, 12, true),
+        17 => (1, 22, true),
+        18 => (1, 48, true),
+        19 => (1, 31, true),
+        32 => (2, 18, false),
+        33 => (2, 12, false),
+        34..=43 => (2, 8, true),
+        44 => (2, 17, true),
+        45 => (2, 14, false),
+        46 | 49 => (2, 6, false),
+        47 | 48 => (2, 5, false),
+        50 | 51 => (2, 16, true),
+        52 | 53 => (2, 4, false),
+        _ => return None,
+    })
+}
+
+/// The little-endian number of `width` bytes at `at`.
+fn le(bytes: &[u8], at: usize, width: usize) -> u64 {
+    bytes[at..at + width].iter().rev().fold(0, |number, &byte| number * 256 + u64::from(byte))
+}
+
+/// A row: its number, from 1 across the lists, its kind and its body.
+struct Row<'a> {
+    number: u64,
+    kind: u64,
+    body: &'a [u8],
+}
+
+impl Row<'_> {
+    fn field(&self, at: usize, width: usize) -> u64 {
+        le(self.body, at, width)
+    }
+}
+
+struct Sheet<'a> {
+    arch: u64,
+    platforms: Vec<Row<'a>>,
+    initializations: Vec<Row<'a>>,
+    directives: Vec<Row<'a>>,
+}
+
+/// Refusals 1 to 7: 1 (under 16 bytes), 2, 3, 1 (table); then each row 4, 5 (length), 1, 5 (codes); then 6, 7.
+fn read(s: &[u8]) -> Result<Sheet<'_>, Refusal> {
+    refuse(s.len() < 16, 1, 0, 0)?;
+    let (revision, arch, page_size) = (le(s, 0, 1), le(s, 1, 1), le(s, 4, 4));
+    let counts = [le(s, 8, 2), le(s, 10, 2), le(s, 12, 2)];
+    refuse(!(1..=2).contains(&revision) || arch > AARCH64 || le(s, 2, 2) != 0 || le(s, 14, 2) != 0, 2, 0, 0)?;
+    refuse(revision == 1 && (arch != X64 || page_size != 0), 2, 0, 0)?;
+    refuse((0..3).any(|list| counts[list] > ROW_LIMITS[list]) || s.len() > BYTE_LIMIT, 3, 0, 0)?;
+    let rows = counts[0] + counts[1] + counts[2];
+    let mut at = 16 + 8 * rows as usize;
+    refuse(s.len() < at, 1, 0, 0)?;
+    let mut lists = [Vec::new(), Vec::new(), Vec::new()];
+    for number in 1..=rows {
+        let list = list_of(number, &counts);
+        let row = read_row(s, number, list, at)?;
+        at += row.body.len();
+        lists[list].push(row);
+    }
+    refuse(at < s.len(), 6, 0, 0)?;
+    refuse(revision == 2 && page_size != PAGE, 7, 0, page_size)?;
+    let [platforms, initializations, directives] = lists;
+    Ok(Sheet { arch, platforms, initializations, directives })
+}
+
+fn list_of(number: u64, counts: &[u64; 3]) -> usize {
+    if number <= counts[0] {
+        0
+    } else if number <= counts[0] + counts[1] {
+        1
+    } else {
+        2
+    }
+}
+
+fn read_row(s: &[u8], number: u64, list: usize, at: usize) -> Result<Row<'_>, Refusal> {
+    let entry = 8 + 8 * number as usize;
+    let (kind, length) = (le(s, entry, 4), le(s, entry + 4, 4) as usize);
+    let Some((_, least, exact)) = kind_rule(kind).filter(|rule| rule.0 == list) else {
+        return Err(Refusal(4, number, 0));
+    };
+    refuse(length < least || exact && length != least, 5, number, 0)?;
+    refuse(s.len() - at < length, 1, number, 0)?;
+    let row = Row { number, kind, body: &s[at..at + length] };
+    refuse(!codes_ok(&row), 5, number, 0)?;
+    Ok(row)
+}
+
+/// The VTL of 18, 19, 47, 48 up to 2, the flags of 18 up to 7, protectable up to 1.
+fn codes_ok(row: &Row) -> bool {
+    match row.kind {
+        18 => row.field(47, 1) <= 2 && row.field(44, 1) <= 7,
+        19 => row.field(30, 1) <= 2,
+        47 | 48 => row.field(4, 1) <= 2,
+        44 => row.field(16, 1) <= 1,
+        _ => true,
+    }
+}
+
+// ---- platform rows: 8, 9, 12, 10, 11, 13, 14; then 15
+
+fn platform_rows(sheet: &Sheet) -> Checked {
+    let mut types = Vec::new();
+    for row in &sheet.platforms {
+        let (mask, highest_vtl, typ) = (row.field(0, 4), row.field(4, 1), row.field(5, 1));
+        let (version, boundary) = (row.field(6, 2), row.field(8, 8));
+        refuse(mask.count_ones() != 1, 8, row.number, 0)?;
+        refuse(highest_vtl != 0 && highest_vtl != 2, 9, row.number, 0)?;
+        refuse(typ > CCA, 12, row.number, 0)?;
+        refuse(version != 1, 10, row.number, 0)?;
+        refuse(typ <= VSM_ISOLATION && boundary != 0, 11, row.number, 0)?;
+        refuse(!arch_takes(sheet.arch, typ), 13, row.number, typ)?;
+        refuse(types.contains(&typ), 14, row.number, 0)?;
+        types.push(typ);
+    }
+    refuse(sheet.platforms.is_empty(), 15, 0, 0)
+}
+
+/// Type 6 is of AArch64; 0 and 2 to 5 are of X64; 1 is of both.
+fn arch_takes(arch: u64, typ: u64) -> bool {
+    match typ {
+        CCA => arch == AARCH64,
+        VSM_ISOLATION => true,
+        _ => arch == X64,
+    }
+}
+
+/// The type that counts for a mask: that of the last platform with it.
+fn type_of(sheet: &Sheet, mask: u64) -> Option<u64> {
+    sheet.platforms.iter().rev().find(|row| row.field(0, 4) == mask).map(|row| row.field(5, 1))
+}
+
+// ---- initialization rows
+
+/// A region of either kind.
+struct Region {
+    kind: u64,
+    mask: u64,
+    gpa: u64,
+    size: u64,
+    used: u64,
+    vp: u64,
+    vtl: u64,
+}
+
+fn region_of(row: &Row) -> Option<Region> {
+    let (kind, mask) = (row.kind, row.field(0, 4));
+    match kind {
+        18 => {
+            let (gpa, size) = (row.field(12, 8), row.field(20, 8));
+            Some(Region { kind, mask, gpa, size, used: 0, vp: row.field(45, 2), vtl: row.field(47, 1) })
+        }
+        19 => {
+            let (gpa, size, used) = (row.field(4, 8), row.field(12, 8), row.field(20, 8));
+            Some(Region { kind, mask, gpa, size, used, vp: row.field(28, 2), vtl: row.field(30, 1) })
+        }
+        _ => None,
+    }
+}
+
+/// base + size, exact
+fn end(base: u64, size: u64) -> u128 {
+    u128::from(base) + u128::from(size)
+}
+
+/// Gives the regions of both kinds.
+fn initialization_rows(sheet: &Sheet) -> Result<Vec<Region>, Refusal> {
+    let mut earlier = Vec::new();
+    for row in &sheet.initializations {
+        match row.kind {
+            17 => cca_policy(sheet, row)?,
+            18 => relocatable_region(row)?,
+            19 => page_table(row, &earlier)?,
+            _ => {}
+        }
+        if let Some(region) = region_of(row) {
+            sound_region(row.number, &region, &earlier)?;
+            earlier.push(region);
+        }
+    }
+    Ok(earlier)
+}
+
+/// Kind 17: 16, 24, 25.
+fn cca_policy(sheet: &Sheet, row: &Row) -> Checked {
+    let (mask, zeroes, ones) = (row.field(0, 4), row.field(4, 8), row.field(12, 8));
+    refuse(zeroes & ones != 0, 16, row.number, 0)?;
+    refuse(sheet.arch != AARCH64, 24, row.number, 17)?;
+    for bit in (0..32).map(|place| 1 << place).filter(|bit| mask & bit != 0) {
+        refuse(type_of(sheet, bit) != Some(CCA), 25, row.number, bit)?;
+    }
+    Ok(())
+}
+
+/// Kind 18: 17, 18, 19, 20.
+fn relocatable_region(row: &Row) -> Checked {
+    let (alignment, gpa, size) = (row.field(4, 8), row.field(12, 8), row.field(20, 8));
+    let (minimum, maximum) = (row.field(28, 8), row.field(36, 8));
+    refuse(size % PAGE != 0, 17, row.number, 0)?;
+    refuse(alignment % PAGE != 0, 18, row.number, 0)?;
+    refuse(alignment == 0, 19, row.number, 0)?;
+    refuse(gpa % alignment != 0, 20, row.number, gpa)?;
+    refuse(minimum % alignment != 0, 20, row.number, minimum)?;
+    refuse(maximum % alignment != 0, 20, row.number, maximum)
+}
+
+/// Kind 19: 21, 22 (size, used), 23, 26.
+fn page_table(row: &Row, earlier: &[Region]) -> Checked {
+    let (mask, gpa, size, used) = (row.field(0, 4), row.field(4, 8), row.field(12, 8), row.field(20, 8));
+    refuse(gpa % PAGE != 0, 21, row.number, gpa)?;
+    refuse(size % PAGE != 0, 22, row.number, size)?;
+    refuse(used % PAGE != 0, 22, row.number, used)?;
+    refuse(used > size, 23, row.number, 0)?;
+    refuse(earlier.iter().any(|other| other.kind == 19 && other.mask & mask != 0), 26, row.number, 0)
+}
+
+/// Kinds 18 and 19: 27, 28, 29.
+fn sound_region(number: u64, region: &Region, earlier: &[Region]) -> Checked {
+    refuse(region.size == 0, 27, number, 0)?;
+    refuse(end(region.gpa, region.size) > u128::from(u64::MAX), 28, number, 0)?;
+    refuse(earlier.iter().any(|other| overlap(region, other)), 29, number, 0)
+}
+
+/// Two regions share an address under a shared bit.
+fn overlap(a: &Region, b: &Region) -> bool {
+    let (a_end, b_end) = (end(a.gpa, a.size), end(b.gpa, b.size));
+    a.mask & b.mask != 0 && u128::from(a.gpa) < b_end && u128::from(b.gpa) < a_end
+}
+
+// ---- directive rows: 21, 30, 22, 31, 24, 32, 33
+
+/// A parameter area: its index, and whether it was inserted.
+struct Area {
+    index: u64,
+    inserted: bool,
+}
+
+fn directive_rows(sheet: &Sheet, regions: &[Region]) -> Checked {
+    let mut areas = Vec::new();
+    for row in &sheet.directives {
+        aligned_directive(row)?;
+        refuse(!arch_has(sheet.arch, row.kind), 24, row.number, row.kind)?;
+        refuse(!area_rule(row, &mut areas), 32, row.number, 0)?;
+        refuse(row.kind == 50 && in_page_table(row, regions), 33, row.number, 0)?;
+    }
+    Ok(())
+}
+
+/// 21 (kinds 32, 44, 45, 50, 51), 30 (32), 22 (33, 44), 31 (32, 33).
+fn aligned_directive(row: &Row) -> Checked {
+    if matches!(row.kind, 32 | 44 | 45 | 50 | 51) {
+        let gpa = row.field(0, 8);
+        refuse(gpa % PAGE != 0, 21, row.number, gpa)?;
+    }
+    match row.kind {
+        32 => {
+            refuse(row.field(16, 2) > 3, 30, row.number, 0)?;
+            refuse(row.body.len() - 18 > 4096, 31, row.number, 0)
+        }
+        33 => {
+            let bytes = row.field(0, 8);
+            refuse(bytes % PAGE != 0, 22, row.number, bytes)?;
+            refuse((row.body.len() - 12) as u64 > bytes, 31, row.number, 0)
+        }
+        44 => refuse(row.field(12, 4) % PAGE != 0, 22, row.number, row.field(12, 4)),
+        _ => Ok(()),
+    }
+}
+
+/// 48 and 49 are of AArch64; 46 and 47 of X64.
+fn arch_has(arch: u64, kind: u64) -> bool {
+    match kind {
+        46 | 47 => arch == X64,
+        48 | 49 => arch == AARCH64,
+        _ => true,
+    }
+}
+
+/// An area index may be allocated once, named while allocated, inserted once.
+fn area_rule(row: &Row, areas: &mut Vec<Area>) -> bool {
+    let index = match row.kind {
+        33 => row.field(8, 4),
+        34..=43 => row.field(0, 4),
+        50 => row.field(12, 4),
+        _ => return true,
+    };
+    let area = areas.iter_mut().find(|area| area.index == index);
+    match (row.kind, area) {
+        (33, None) => areas.push(Area { index, inserted: false }),
+        (33, Some(_)) | (_, None) => return false,
+        (_, Some(area)) => {
+            if area.inserted {
+                return false;
+            }
+            area.inserted = row.kind == 50;
+        }
+    }
+    true
+}
+
+/// The insert's gpa lies in a page table that shares a bit.
+fn in_page_table(row: &Row, regions: &[Region]) -> bool {
+    let (gpa, mask) = (row.field(0, 8), row.field(8, 4));
+    let holds = |t: &Region| t.mask & mask != 0 && t.gpa <= gpa && u128::from(gpa) < end(t.gpa, t.size);
+    regions.iter().any(|region| region.kind == 19 && holds(region))
+}
+
+// ---- the verdict
+
+/// 34: for a region of either kind the VP index must be 0, and some VBS context of its VTL must share at least one mask bit.
+fn has_context(sheet: &Sheet, region: &Region) -> bool {
+    let vbs = |row: &&Row| matches!(row.kind, 47 | 48);
+    let shares = |row: &Row| row.field(4, 1) == region.vtl && row.field(0, 4) & region.mask != 0;
+    region.vp == 0 && sheet.directives.iter().filter(vbs).any(shares)
+}
+
+fn accepted(s: &[u8]) -> Result<Sheet<'_>, Refusal> {
+    let sheet = read(s)?;
+    platform_rows(&sheet)?;
+    let regions = initialization_rows(&sheet)?;
+    directive_rows(&sheet, &regions)?;
+    refuse(!regions.iter().all(|region| has_context(&sheet, region)), 34, 0, 0)?;
+    Ok(sheet)
+}
+
+/// Number, row, detail, and the rows of each list.
+pub fn verdict(s: &[u8]) -> [u64; 6] {
+    match accepted(s) {
+        Ok(sheet) => {
+            let (p, i, d) = (sheet.platforms.len(), sheet.initializations.len(), sheet.directives.len());
+            [0, 0, 0, p as u64, i as u64, d as u64]
+        }
+        Err(Refusal(number, row, detail)) => [number, row, detail, 0, 0, 0],
+    }
+}
+
+// ---- the queries: the verdict, 35, then 36 or 37
+
+/// A region's eight words: base, size, alignment, minimum, maximum, flags, VP, VTL.
+pub type Words = [u64; 8];
+
+/// A header matches if its mask holds every bit of the mask given.
+fn matches_mask(row: &Row, mask: u32) -> bool {
+    row.field(0, 4) & u64::from(mask) == u64::from(mask)
+}
+
+/// The regions of a mask in header order, and its page table.
+struct Found {
+    regions: Vec<Words>,
+    page_table: Option<Region>,
+}
+
+fn find(s: &[u8], mask: u32) -> Result<Found, Refusal> {
+    let sheet = accepted(s)?;
+    refuse(mask == 0, 35, 0, 0)?;
+    let of_kind = |kind: u64| sheet.initializations.iter().filter(move |row| row.kind == kind && matches_mask(row, mask));
+    Ok(Found { regions: of_kind(18).map(words_of).collect(), page_table: of_kind(19).find_map(region_of) })
+}
+
+fn words_of(row: &Row) -> Words {
+    let word = |at| row.field(at, 8);
+    let (alignment, base, size, minimum, maximum) = (word(4), word(12), word(20), word(28), word(36));
+    [base, size, alignment, minimum, maximum, row.field(44, 1), row.field(45, 2), row.field(47, 1)]
+}
+
+/// Number, row, detail, count, page table (1 or 0), gpa, size, used size, VP index, VTL. The regions' words go to the front of the lent bytes.
+pub fn relocations(s: &[u8], mask: u32, lent: &mut [u8]) -> [u64; 10] {
+    match relocations_into(s, mask, lent) {
+        Ok(numbers) => numbers,
+        Err(Refusal(number, row, detail)) => [number, row, detail, 0, 0, 0, 0, 0, 0, 0],
+    }
+}
+
+fn relocations_into(s: &[u8], mask: u32, lent: &mut [u8]) -> Result<[u64; 10], Refusal> {
+    let found = find(s, mask)?;
+    refuse(lent.len() / 8 < 8 * found.regions.len(), 37, 0, 0)?;
+    for (place, word) in lent.chunks_exact_mut(8).zip(found.regions.iter().flatten()) {
+        place.copy_from_slice(&word.to_le_bytes());
+    }
+    let count = found.regions.len() as u64;
+    Ok(match found.page_table {
+        Some(t) => [0, 0, 0, count, 1, t.gpa, t.size, t.used, t.vp, t.vtl],
+        None => [0, 0, 0, count, 0, 0, 0, 0, 0, 0],
+    })
+}
+
+/// Number, row, detail, and whether the test holds of the region of this number.
+fn check(s: &[u8], mask: u32, region: u64, holds: impl Fn(&Words) -> bool) -> [u64; 4] {
+    match find(s, mask) {
+        Ok(found) => match found.regions.get(region as usize) {
+            Some(words) => [0, 0, 0, u64::from(holds(words))],
+            None => [36, 0, 0, 0],
+        },
+        Err(Refusal(number, row, detail)) => [number, row, detail, 0],
+    }
+}
+
+/// A base is valid if it is a multiple of the alignment, not below the minimum, and base + size is not above the maximum.
+pub fn relocation_base_valid(s: &[u8], mask: u32, region: u64, base: u64) -> [u64; 4] {
+    check(s, mask, region, |&[_, size, alignment, minimum, maximum, ..]| {
+        base % alignment == 0 && base >= minimum && end(base, size) <= u128::from(maximum)
+    })
+}
+
+/// An address is contained from base up to, not including, base + size.
+pub fn contains(s: &[u8], mask: u32, region: u64, gpa: u64) -> [u64; 4] {
+    check(s, mask, region, |&[base, size, ..]| gpa >= base && u128::from(gpa) < end(base, size))
+}
+
+// ---- as the calls: number `which` of the answer, 0 where there is none
+
+fn number(which: u32, numbers: &[u64]) -> u64 {
+    numbers.get(which as usize).copied().unwrap_or(0)
+}
+
+pub const CALLS: Calls = Calls {
+    verdict: |s, which| number(which, &verdict(s)),
+    relocations: |s, mask, lent, which| number(which, &relocations(s, mask, lent)),
+    relocation_base_valid: |s, mask, region, base, which| number(which, &relocation_base_valid(s, mask, region, base)),
+    contains: |s, mask, region, gpa, which| number(which, &contains(s, mask, region, gpa)),
+};

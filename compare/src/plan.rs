@@ -1,0 +1,108 @@
+//! Which queries are made of a sheet: masks, region numbers, bases, addresses and lent lengths, all of them at boundaries.
+
+use crate::compare::Call;
+use crate::paper;
+use crate::random::Random;
+use crate::sheet::Image;
+
+/// A mask's regions, as document 01 has them.
+struct Regions {
+    mask: u32,
+    words: Vec<[u64; 8]>,
+}
+
+fn regions(sheet: &[u8], mask: u32) -> Regions {
+    let mut lent = [0; 64 * 64];
+    let count = paper::relocations(sheet, mask, &mut lent)[3] as usize;
+    let word = |at: usize| u64::from_le_bytes(lent[8 * at..8 * at + 8].try_into().unwrap());
+    let words = (0..count).map(|region| std::array::from_fn(|k| word(8 * region + k))).collect();
+    Regions { mask, words }
+}
+
+/// 0, single bits and several bits, of the initialization rows and beside them.
+fn masks(sheet: &[u8]) -> Vec<u32> {
+    let rows = Image::parse(sheet).map_or(Vec::new(), |image| image.lists[1].clone());
+    let of_rows: Vec<u32> = rows.iter().filter_map(|row| row.get("mask")).map(|mask| mask as u32).collect();
+    let all = of_rows.iter().fold(0, |union, mask| union | mask);
+    let mut masks = vec![0, 1, all, all & all.wrapping_sub(1), 1 << (all.trailing_zeros() % 32), u32::MAX, 1 << 31];
+    masks.extend(of_rows.iter().copied().filter(|mask| mask.count_ones() > 1).take(3));
+    masks.extend((0..32).map(|place| 1 << place).filter(|bit| all & bit != 0).take(4));
+    masks.sort_unstable();
+    masks.dedup();
+    masks
+}
+
+fn region_numbers(count: u64) -> [u64; 6] {
+    [0, count.saturating_sub(1), count, 1 << 32, (1 << 32) + count.saturating_sub(1), u64::MAX]
+}
+
+fn lent_lengths(count: usize) -> [usize; 9] {
+    [0, 7, 8, 63, 64, (64 * count).saturating_sub(1), 64 * count, 64 * count + 5, 64 * count + 64]
+}
+
+fn bases(region: Option<&[u64; 8]>) -> Vec<u64> {
+    let Some(&[gpa, size, alignment, minimum, maximum, ..]) = region else { return vec![0, u64::MAX] };
+    let last = maximum.wrapping_sub(size);
+    let sum_ends = 0u64.wrapping_sub(size);
+    let mut bases = vec![0, gpa, minimum, last, sum_ends, u64::MAX];
+    for near in [minimum, last, sum_ends] {
+        bases.extend([near.wrapping_sub(alignment), near.wrapping_add(alignment), near.wrapping_sub(1), near.wrapping_add(1)]);
+    }
+    bases.extend([last / alignment * alignment, sum_ends / alignment * alignment, u64::MAX / alignment * alignment]);
+    bases
+}
+
+fn addresses(region: Option<&[u64; 8]>) -> Vec<u64> {
+    let Some(&[gpa, size, ..]) = region else { return vec![0, u64::MAX] };
+    let end = gpa + size;
+    vec![0, gpa.wrapping_sub(1), gpa, gpa + 1, end - 1, end, end.wrapping_add(1), u64::MAX]
+}
+
+/// Every query of every mask.
+pub fn all(sheet: &[u8]) -> Vec<Call> {
+    let mut calls = Vec::new();
+    for mask in masks(sheet) {
+        let found = regions(sheet, mask);
+        calls.extend(lent_lengths(found.words.len()).map(|lent| Call::Relocations { mask, lent }));
+        for region in region_numbers(found.words.len() as u64) {
+            let words = found.words.get(region as usize);
+            calls.extend(bases(words).into_iter().map(|base| Call::BaseValid { mask, region, base }));
+            calls.extend(addresses(words).into_iter().map(|gpa| Call::Contains { mask, region, gpa }));
+        }
+    }
+    calls
+}
+
+/// A few queries of an accepted sheet.
+pub fn some(random: &mut Random, sheet: &[u8]) -> Vec<Call> {
+    let masks = masks(sheet);
+    let mut calls = Vec::new();
+    for _ in 0..2 {
+        let found = regions(sheet, random.pick(&masks));
+        let mask = found.mask;
+        calls.push(Call::Relocations { mask, lent: random.pick(&lent_lengths(found.words.len())) });
+        let region = a_region(random, found.words.len());
+        let words = found.words.get(region as usize);
+        calls.push(Call::BaseValid { mask, region, base: random.pick(&bases(words)) });
+        calls.push(Call::Contains { mask, region, gpa: random.pick(&addresses(words)) });
+    }
+    calls
+}
+
+/// Mostly the number of a region that is there.
+fn a_region(random: &mut Random, count: usize) -> u64 {
+    if count == 0 || random.one_in(5) {
+        return random.pick(&region_numbers(count as u64));
+    }
+    random.below(count) as u64
+}
+
+/// One query of a refused sheet: whatever is asked, the answer is the verdict's refusal.
+pub fn one(random: &mut Random) -> Call {
+    let mask = random.pick(&[0, 1, 2, 3, u32::MAX]);
+    match random.below(4) {
+        0 | 1 => Call::Relocations { mask, lent: random.pick(&[0, 7, 8, 64, 200]) },
+        2 => Call::BaseValid { mask, region: random.pick(&[0, 1, u64::MAX]), base: random.pick(&[0, 0x1000]) },
+        _ => Call::Contains { mask, region: random.pick(&[0, 1, u64::MAX]), gpa: random.pick(&[0, 0x100000]) },
+    }
+}

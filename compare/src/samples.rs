@@ -1,0 +1,66 @@
+//! Stored sheets, sheets for other programs, and single sheets.
+
+use crate::compare::{check, Call, Rust};
+use crate::library::LIBRARY;
+use crate::random::Random;
+use crate::{generate, line, paper, plan};
+use calls::Calls;
+use std::fs;
+use std::path::Path;
+
+/// A folder of sheets, and beside it a list FOLDER.txt with a line `name: line` for each. All queries are compared too.
+pub fn replay(calls: &Calls, folder: &str) -> Result<(), String> {
+    let list = fs::read_to_string(format!("{folder}.txt")).map_err(|e| format!("{folder}.txt: {e}"))?;
+    let (mut count, mut with_rust) = (0, 0);
+    for entry in list.lines() {
+        let (name, expected) = entry.split_once(": ").ok_or(format!("{folder}.txt: {entry}"))?;
+        let sheet = fs::read(Path::new(folder).join(name)).map_err(|e| format!("{name}: {e}"))?;
+        for (who, said) in [("the calls say", line(calls, &sheet)), ("document 01 in Rust says", line(&paper::CALLS, &sheet))] {
+            if said != expected {
+                return Err(format!("sample {name}: {expected}; {who} {said}"));
+            }
+        }
+        let rust = Rust::of(&sheet);
+        with_rust += u64::from(rust.judged.is_some());
+        for call in [vec![Call::Verdict], plan::all(&sheet)].concat() {
+            check(calls, &sheet, &rust, call).map_err(|d| format!("sample {name}: {:?}: {}", d.call, d.what))?;
+        }
+        count += 1;
+    }
+    println!("samples: {count} agree, {with_rust} of them with the Rust too");
+    Ok(())
+}
+
+/// Random sheets in hexadecimal digits, each with its line, for a comparison outside this program.
+pub fn emit(seed: u64, cases: u64) -> Result<(), String> {
+    for case in 0..cases {
+        let sheet = generate::sheet(&mut Random::new(seed, case));
+        println!("{} {}", hex(&sheet), line(&paper::CALLS, &sheet));
+    }
+    Ok(())
+}
+
+/// What each says of one sheet.
+pub fn one(digits: &str) -> Result<(), String> {
+    let digit = |at: usize| digits.get(at..at + 2).and_then(|two| u8::from_str_radix(two, 16).ok());
+    let sheet: Option<Vec<u8>> = (0..digits.len()).step_by(2).map(digit).collect();
+    let sheet = sheet.ok_or("not hexadecimal digits, two for a byte")?;
+    println!("document 01: {}", line(&paper::CALLS, &sheet));
+    if let Some(library) = LIBRARY {
+        println!("library: {}", line(&library, &sheet));
+    }
+    let Some(headers) = oracle::Headers::decode(&sheet) else {
+        println!("the Rust: no headers");
+        return Ok(());
+    };
+    let domain = if headers.in_domain() { "" } else { ", not on its domain" };
+    match headers.verdict() {
+        Ok(judged) => println!("the Rust{domain}: {:?}", judged.numbers),
+        Err(message) => println!("the Rust{domain}: panicked: {message}"),
+    }
+    Ok(())
+}
+
+fn hex(bytes: &[u8]) -> String {
+    bytes.iter().map(|byte| format!("{byte:02x}")).collect()
+}

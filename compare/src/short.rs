@@ -1,0 +1,362 @@
+//! Short sheets, all of them of each sort: strings of few bytes, heads, one row with small fields, pairs of regions, sequences of areas.
+
+use crate::compare::Call;
+use crate::generate::TOP;
+use crate::sheet::{fields, fields_length, is_open, kinds, list_of, Image, Row};
+
+/// What is done with each sheet; false stops.
+type Each<'a> = &'a mut dyn FnMut(&[u8]) -> bool;
+
+/// Every short sheet. False if `each` stopped.
+pub fn every(each: Each) -> bool {
+    let parts: [fn(Each) -> bool; 12] = [
+        few_bytes,
+        heads,
+        revisions,
+        one_platform,
+        platforms_and_policy,
+        one_initialization,
+        two_regions,
+        one_directive,
+        areas,
+        inserts,
+        region_contexts,
+        lengths_and_bytes,
+    ];
+    parts.into_iter().all(|part| part(each)) && limits(each)
+}
+
+/// Calls `each` with every choice of one number from each set.
+fn product(sets: &[&[u64]], each: &mut dyn FnMut(&[u64]) -> bool) -> bool {
+    fn choose(sets: &[&[u64]], chosen: &mut Vec<u64>, each: &mut dyn FnMut(&[u64]) -> bool) -> bool {
+        let Some((first, rest)) = sets.split_first() else { return each(chosen) };
+        first.iter().all(|&value| {
+            chosen.push(value);
+            let goes_on = choose(rest, chosen, each);
+            chosen.pop();
+            goes_on
+        })
+    }
+    choose(sets, &mut Vec::new(), each)
+}
+
+fn native() -> Row {
+    Row::new(1, &[1, 0, 0, 1, 0])
+}
+
+/// A platform that both archs take.
+fn vsm(mask: u64) -> Row {
+    Row::new(1, &[mask, 0, 1, 1, 0])
+}
+
+fn region(mask: u64, gpa: u64, size: u64) -> Row {
+    Row::new(18, &[mask, 0x1000, gpa, size, 0, TOP, 0, 0, 0])
+}
+
+fn page_table(mask: u64, gpa: u64, size: u64) -> Row {
+    Row::new(19, &[mask, gpa, size, 0, 0, 0])
+}
+
+/// A VBS context of the arch.
+fn vbs(arch: u8, mask: u64, vtl: u64) -> Row {
+    Row::new(if arch == 0 { 47 } else { 48 }, &[mask, vtl])
+}
+
+// ---- bytes and heads
+
+/// All strings of up to two bytes; of 3 to 15 bytes the beginnings of a head.
+fn few_bytes(each: Each) -> bool {
+    let head = Image::new(1, Default::default()).bytes();
+    each(&[])
+        && (0..=255).all(|a| each(&[a]))
+        && (0..=65535u16).all(|ab| each(&ab.to_le_bytes()))
+        && (3..16).all(|length| each(&head[..length]) && each(&vec![0; length]) && each(&vec![255; length]))
+}
+
+/// Heads of boundary numbers, alone and with eight zero bytes behind.
+fn heads(each: Each) -> bool {
+    let sets: [&[u64]; 8] = [
+        &[0, 1, 2, 3],
+        &[0, 1, 2],
+        &[0, 1, 0x100],
+        &[0, 1, 4095, 4096, 4097, 8192, 0xFFFF_FFFF],
+        &[0, 1, 16, 17],
+        &[0, 1, 64, 65],
+        &[0, 1, 1024, 1025],
+        &[0, 1, 0x8000],
+    ];
+    product(&sets, &mut |v| {
+        let mut image = Image::new(v[1] as u8, Default::default());
+        (image.revision, image.reserved, image.page_size, image.reserved2) = (v[0] as u8, v[2] as u16, v[3] as u32, v[7] as u16);
+        image.counts = Some([v[4] as u16, v[5] as u16, v[6] as u16]);
+        let mut bytes = image.bytes();
+        let alone = each(&bytes);
+        bytes.extend_from_slice(&[0; 8]);
+        alone && each(&bytes)
+    })
+}
+
+/// Every revision with every arch.
+fn revisions(each: Each) -> bool {
+    (0..=65535u16).all(|both| {
+        let [revision, arch] = both.to_le_bytes();
+        [0, 4096].into_iter().all(|page_size| {
+            let mut image = Image::new(arch, [vec![vsm(1)], vec![], vec![]]);
+            (image.revision, image.page_size) = (revision, page_size);
+            each(&image.bytes())
+        })
+    })
+}
+
+// ---- platforms
+
+fn one_platform(each: Each) -> bool {
+    let sets: [&[u64]; 6] = [
+        &[0, 1],
+        &[0, 1, 2, 3, 4, 0x8000_0000, 0x8000_0001],
+        &[0, 1, 2, 3, 255],
+        &[0, 1, 2, 3, 4, 5, 6, 7, 8, 255],
+        &[0, 1, 2, 256, 257],
+        &[0, 1, 4096, 1 << 63],
+    ];
+    product(&sets, &mut |v| each(&Image::new(v[0] as u8, [vec![Row::new(1, &v[1..])], vec![], vec![]]).bytes()))
+}
+
+/// Up to three platforms of masks 1 and 2, and a CcaPolicy.
+fn platforms_and_policy(each: Each) -> bool {
+    let pair: &[u64] = &[0, 1, 2, 3, 4, 5, 6, 7, 8, 9, 10, 11, 12, 13, 14];
+    product(&[&[0, 1], pair, pair, &[14, 1, 6, 9, 13], &[0, 1, 2, 3, 4, 7]], &mut |v| {
+        // 0 to 6 is a type with mask 1, 7 to 13 one with mask 2, 14 no row
+        let rows = v[1..4].iter().filter(|&&code| code != 14);
+        let platforms = rows.map(|code| Row::new(1, &[1 + code / 7, 0, code % 7, 1, 0])).collect();
+        each(&Image::new(v[0] as u8, [platforms, vec![Row::new(17, &[v[4], 0, 0])], vec![]]).bytes())
+    })
+}
+
+// ---- initializations
+
+/// A platform, one initialization row with small fields, and a context.
+fn one_initialization(each: Each) -> bool {
+    let mut with_context =
+        |arch: u64, row: Row| each(&Image::new(arch as u8, [vec![vsm(1)], vec![row], vec![vbs(arch as u8, 1, 0)]]).bytes());
+    let policies = product(&[&[0, 1], &[0, u64::MAX], &[0, 1, 2, 3]], &mut |v| with_context(v[0], Row::new(16, &v[1..])));
+    let regions: [&[u64]; 10] = [
+        &[0],
+        &[0, 1, 2],
+        &[0, 0x800, 0x1000, 0x2000, 0x3000],
+        &[0, 0x1000, 0x1800, 0x6000, TOP - 0x1000, TOP],
+        &[0, 1, 0x1000, 0x2000, TOP],
+        &[0, 0x800, 0x6000],
+        &[0, 1, 0x6000, 0xC000],
+        &[0, 7, 8],
+        &[0, 1, 256],
+        &[0, 2, 3],
+    ];
+    let tables: [&[u64]; 7] = [
+        &[0, 1],
+        &[0, 1, 2, 3],
+        &[0, 1, 0x800, 0x1000, TOP - 0x1000, TOP],
+        &[0, 1, 0x1000, 0x2000, TOP, u64::MAX],
+        &[0, 1, 0x1000, 0x2000, 0x3000, TOP],
+        &[0, 1, 256],
+        &[0, 1, 2, 3],
+    ];
+    policies
+        && product(&regions, &mut |v| with_context(v[0], Row::new(18, &v[1..])))
+        && product(&tables, &mut |v| with_context(v[0], Row::new(19, &v[1..])))
+        && cca_policies(each)
+}
+
+fn cca_policies(each: Each) -> bool {
+    let numbers: &[u64] = &[0, 1, 2, 3, 1 << 63];
+    product(&[&[0, 1], &[1, 6], &[0, 1, 2, 3, 0x8000_0000], numbers, numbers], &mut |v| {
+        let platform = Row::new(1, &[1, 0, v[1], 1, 0]);
+        each(&Image::new(v[0] as u8, [vec![platform], vec![Row::new(17, &v[2..])], vec![]]).bytes())
+    })
+}
+
+/// Two regions of either kind, up to five pages apart.
+fn two_regions(each: Each) -> bool {
+    let pages: &[u64] = &[0, 1, 2, 3, 4];
+    let masks: &[u64] = &[0, 1, 2, 3];
+    let sizes: &[u64] = &[1, 2, 3];
+    let kinds: &[u64] = &[18, 19];
+    product(&[kinds, kinds, masks, masks, pages, pages, sizes, sizes], &mut |v| {
+        let row = |n: usize| {
+            let make = if v[n] == 18 { region } else { page_table };
+            make(v[2 + n], 0x1000 * v[4 + n], 0x1000 * v[6 + n])
+        };
+        each(&Image::new(0, [vec![native()], vec![row(0), row(1)], vec![vbs(0, 3, 0)]]).bytes())
+    })
+}
+
+// ---- directives
+
+/// The numbers that a directive's field is given.
+fn directive_values(kind: u32, name: &str) -> &'static [u64] {
+    match (kind, name) {
+        (_, "gpa") => &[0, 1, 0x800, 0x1000, TOP, u64::MAX],
+        (_, "mask") => &[0, 1, 3],
+        (32, "flags") => &[0, 0xFFFF_FFFF],
+        (_, "type") => &[0, 1, 2, 3, 4, 256, 65535],
+        (33, _) => &[0, 1, 0x1000, 0x1001, 0x2000, TOP, u64::MAX],
+        (44, "bytes") => &[0, 1, 0x1000, 0xFFFF_F000, 0xFFFF_FFFF],
+        (_, "protectable") => &[0, 1, 2, 255],
+        (_, "vp") => &[0, 1, 65535],
+        (_, "vtl") => &[0, 1, 2, 3, 4, 255],
+        (_, "area") => &[0, 1],
+        _ => &[0, 0xFFFF_FFFF],
+    }
+}
+
+/// One directive of each kind with small fields, on both archs, with and without a parameter area before it.
+fn one_directive(each: Each) -> bool {
+    kinds().filter(|&kind| list_of(kind) == 2).all(|kind| {
+        let mut sets: Vec<&[u64]> = vec![&[0, 1], &[0, 1]];
+        sets.push(if is_open(kind) { &[0, 1, 4096, 4097] } else { &[0] });
+        sets.extend(fields(kind).iter().map(|(name, _)| directive_values(kind, name)));
+        product(&sets, &mut |v| {
+            let row = Row::new(kind, &v[3..]).with_tail(&vec![0; v[2] as usize]);
+            let mut directives = vec![Row::new(33, &[0x1000, 0]), row];
+            if v[1] == 0 {
+                directives.remove(0);
+            }
+            each(&Image::new(v[0] as u8, [vec![vsm(1)], vec![], directives]).bytes())
+        })
+    })
+}
+
+/// Every sequence of up to five rows that allocate, name or insert area 0 or 1.
+fn areas(each: Each) -> bool {
+    let actions: &[u64] = &[0, 1, 2, 3, 4, 5];
+    (1..=5).all(|length| {
+        product(&vec![actions; length], &mut |v| {
+            let row = |&code: &u64| match code / 2 {
+                0 => Row::new(33, &[0x1000, code % 2]),
+                1 => Row::new(34, &[code % 2, 0]),
+                _ => Row::new(50, &[0, 1, code % 2]),
+            };
+            each(&Image::new(0, [vec![native()], vec![], v.iter().map(row).collect()]).bytes())
+        })
+    })
+}
+
+/// An insert before, in and behind a page table, in and behind its used part, of an area that is there or not.
+fn inserts(each: Each) -> bool {
+    let masks: &[u64] = &[0, 1, 2, 3];
+    product(&[&[1, 2, 3], &[0, 1, 2, 3], &[0, 1, 2, 3, 4, 5, 6], &[1, 2, 3], masks, &[0, 1]], &mut |v| {
+        let (size, used, page) = (0x1000 * v[0], 0x1000 * v[1], 0x1000 * v[2]);
+        let table = Row::new(19, &[v[3], 0x2000, size, used, 0, 0]);
+        let area = Row::new(33, &[0x1000, v[5]]);
+        let directives = vec![area, Row::new(50, &[page, v[4], 0]), vbs(0, 7, 0)];
+        each(&Image::new(0, [vec![native()], vec![table, region(4, 0, 0x8000)], directives]).bytes())
+    })
+}
+
+/// A region of either kind, and two contexts of any VTL.
+fn region_contexts(each: Each) -> bool {
+    let (masks, vtls): (&[u64], &[u64]) = (&[0, 1, 2, 3, 6], &[0, 1, 2]);
+    product(&[&[18, 19], masks, &[0, 1], vtls, masks, vtls, masks, vtls], &mut |v| {
+        let mut row = if v[0] == 18 { region(v[1], 0, 0x1000) } else { page_table(v[1], 0, 0x1000) };
+        row.set("vp", v[2]);
+        row.set("vtl", v[3]);
+        let arch = (v[4] & 1) as u8;
+        each(&Image::new(arch, [vec![vsm(1)], vec![row], vec![vbs(arch, v[4], v[5]), vbs(arch, v[6], v[7])]]).bytes())
+    })
+}
+
+// ---- lengths, cut sheets, changed bytes
+
+/// A row of every kind that the arch takes.
+fn every_kind(arch: u8) -> Image {
+    let platform = if arch == 0 { native() } else { Row::new(1, &[1, 0, 6, 1, 0]) };
+    let mut initializations = vec![region(1, 0x100000, 0x2000), page_table(1, 0x300000, 0x2000), Row::new(16, &[7, 1])];
+    let mut directives = vec![Row::new(32, &[0, 1, 0, 0]).with_tail(b"data"), Row::new(33, &[0x1000, 0]).with_tail(b"area")];
+    directives.extend((34..44).map(|kind| Row::new(kind, &[0, 0])));
+    directives.push(Row::new(44, &[0, 1, 0x1000, 0]));
+    directives.push(Row::new(45, &[0, 1, 0]).with_tail(b"x"));
+    directives.push(Row::new(if arch == 0 { 46 } else { 49 }, &[1, 0]).with_tail(b"x"));
+    directives.push(vbs(arch, 1, 0).with_tail(b"xyz"));
+    directives.push(Row::new(50, &[0, 1, 0]));
+    directives.push(Row::new(51, &[0, 1, 1]));
+    directives.push(Row::new(52, &[1]).with_tail(b"x"));
+    directives.push(Row::new(53, &[1]).with_tail(b"x"));
+    if arch == 1 {
+        initializations.push(Row::new(17, &[1, 1, 2]));
+    }
+    Image::new(arch, [vec![platform], initializations, directives])
+}
+
+fn lengths_and_bytes(each: Each) -> bool {
+    (0..2).all(|arch| {
+        let bytes = every_kind(arch).bytes();
+        (0..bytes.len()).all(|length| each(&bytes[..length]) && one_byte_changed(&bytes, length, each))
+    }) && (0..256).chain([257, 0x1_0012, u32::MAX]).all(|kind| body_lengths(kind, each))
+}
+
+fn one_byte_changed(bytes: &[u8], at: usize, each: Each) -> bool {
+    let changed = [0, 1, 2, 0xFF, bytes[at] ^ 1, bytes[at] ^ 0x10, bytes[at] ^ 0x80, bytes[at].wrapping_add(1)];
+    changed.into_iter().all(|byte| {
+        let mut other = bytes.to_vec();
+        other[at] = byte;
+        each(&other)
+    })
+}
+
+/// A row of this kind in each list, its body of each length about the least; whole, one byte short, and with one byte left over.
+fn body_lengths(kind: u32, each: Each) -> bool {
+    let least = if kind == 17 { 22 } else { fields_length(kind) };
+    (0..3).all(|list| {
+        (least.saturating_sub(2)..least + 3).all(|length| {
+            let mut lists = [vec![native()], vec![], vec![]];
+            lists[list].push(Row { kind, body: vec![0; length] });
+            let mut bytes = Image::new(0, lists).bytes();
+            let whole = each(&bytes) && each(&bytes[..bytes.len() - 1]);
+            bytes.push(0);
+            whole && each(&bytes)
+        })
+    })
+}
+
+// ---- the limits
+
+/// Lists of the greatest length and one row more, sheets of the greatest length and one byte more.
+fn limits(each: Each) -> bool {
+    let regions = |count: u64| (0..count).map(|n| region(1, 0x2000 * n, 0x2000)).collect::<Vec<_>>();
+    let with = |p: usize, i: u64, d: usize| Image::new(0, [vec![native(); p], regions(i), vec![vbs(0, 1, 0); d]]);
+    let named = |areas: u64| (0..areas).flat_map(|area| [Row::new(33, &[0, area]), Row::new(50, &[0, 1, area])]).collect::<Vec<_>>();
+    let of_areas = |areas: u64| Image::new(0, [vec![native()], vec![], named(areas)]);
+    let rows = [with(1, 64, 1024), with(1, 65, 1), with(1, 1, 1025), with(16, 1, 1), with(17, 1, 1), with(1, 64, 1)];
+    rows.iter().all(|image| each(&image.bytes()))
+        && [of_areas(511), of_areas(512)].iter().all(|image| each(&image.bytes()))
+        && [16_777_215, 16_777_216, 16_777_217].into_iter().all(|length| {
+            let mut image = with(1, 2, 2);
+            let missing = length - image.bytes().len();
+            image.lists[2][1].body.resize(5 + missing, 0);
+            each(&image.bytes()) && each(&vec![0; length])
+        })
+}
+
+// ---- queries
+
+/// Two small regions with every alignment, size, minimum and maximum of few pages, each with every base and address of few pages.
+pub fn every_base(each: &mut dyn FnMut(&[u8], &[Call]) -> bool) -> bool {
+    let (alignments, pages): (&[u64], &[u64]) = (&[0x1000, 0x2000, 0x3000], &[0, 1, 2, 3, 4, 6]);
+    let places: Vec<u64> = (0..17).map(|n| 0x800 * n).chain([u64::MAX, TOP, TOP - 0x1000]).collect();
+    let lengths = [0, 7, 8, 56, 63, 64, 65, 71, 72, 127, 128, 135];
+    let mut queries = Vec::new();
+    for mask in 0..4 {
+        queries.extend(lengths.map(|lent| Call::Relocations { mask, lent }));
+        for region in 0..3 {
+            queries.extend(places.iter().map(|&base| Call::BaseValid { mask, region, base }));
+            queries.extend(places.iter().map(|&gpa| Call::Contains { mask, region, gpa }));
+        }
+    }
+    product(&[alignments, &[1, 2, 3], pages, pages, &[1, 2, 3]], &mut |v| {
+        let [alignment, size, minimum, maximum, mask] = [v[0], 0x1000 * v[1], v[0] * v[2], v[0] * v[3], v[4]];
+        let first = Row::new(18, &[mask, alignment, 0x6000, size, minimum, maximum, 5, 0, 0]);
+        let second = Row::new(18, &[1, 0x1000, 0, 0x1000, 0, 0x8000, 2, 0, 1]);
+        let directives = vec![vbs(0, 3, 0), vbs(0, 1, 1)];
+        each(&Image::new(0, [vec![native()], vec![first, second], directives]).bytes(), &queries)
+    })
+}

@@ -1,0 +1,123 @@
+//! The smallest sheet near a given one on which two answers still differ: rows dropped, opaque bytes cut, fields set to 0.
+
+use crate::compare::{check, Call, Difference, Rust};
+use crate::sheet::{fields, fields_length, Image};
+use calls::Calls;
+
+/// The difference on the smallest sheet and the simplest call that were found.
+pub fn smallest(calls: &Calls, difference: Difference) -> Difference {
+    let mut best = difference;
+    while let Some(found) = smaller(calls, &best) {
+        best = found;
+    }
+    best
+}
+
+/// The first difference of the same sort on a sheet or call that is smaller in some way, the greatest steps first.
+fn smaller(calls: &Calls, from: &Difference) -> Option<Difference> {
+    let differs = |sheet: &[u8], call: Call| {
+        let found = check(calls, sheet, &Rust::of(sheet), call).err()?;
+        (found.with_rust == from.with_rust).then_some(found)
+    };
+    let image = Image::parse(&from.sheet);
+    let by_rows = image.iter().flat_map(|image| edits(image).into_iter().map(|edit| edited(image, &edit)));
+    let by_bytes = bytes(&from.sheet).into_iter();
+    let sheets = by_rows.chain(by_bytes).filter(|sheet| *sheet != from.sheet);
+    let on_sheets = sheets.filter_map(|sheet| differs(&sheet, from.call)).next();
+    on_sheets.or_else(|| calls_below(from.call).into_iter().find_map(|call| differs(&from.sheet, call)))
+}
+
+/// A step towards a smaller image.
+enum Edit {
+    NoLeftOver,
+    PlainHead,
+    FirstHalf(usize),
+    SecondHalf(usize),
+    Drop(usize, usize),
+    Body(usize, usize, usize),
+    Field(usize, usize, &'static str, u64),
+}
+
+fn edits(image: &Image) -> Vec<Edit> {
+    let mut edits = vec![Edit::NoLeftOver, Edit::PlainHead];
+    for (list, rows) in image.lists.iter().enumerate() {
+        edits.extend([Edit::FirstHalf(list), Edit::SecondHalf(list)]);
+        edits.extend((0..rows.len()).map(|at| Edit::Drop(list, at)));
+    }
+    for (list, rows) in image.lists.iter().enumerate() {
+        for (at, row) in rows.iter().enumerate() {
+            let (least, length) = (fields_length(row.kind), row.body.len());
+            edits.extend([least, (least + length) / 2, length.saturating_sub(1)].map(|length| Edit::Body(list, at, length)));
+            for (name, _) in fields(row.kind) {
+                let values = smaller_values(row.get(name).unwrap_or(0));
+                edits.extend(values.into_iter().map(|value| Edit::Field(list, at, name, value)));
+            }
+        }
+    }
+    edits
+}
+
+/// The bytes of the image after a step; a body does not grow.
+fn edited(image: &Image, edit: &Edit) -> Vec<u8> {
+    let mut image = image.clone();
+    match *edit {
+        Edit::NoLeftOver => image.left_over.clear(),
+        Edit::PlainHead => (image.revision, image.arch, image.page_size) = (1, 0, 0),
+        Edit::FirstHalf(list) => image.lists[list].truncate(image.lists[list].len() / 2),
+        Edit::SecondHalf(list) => drop(image.lists[list].drain(..image.lists[list].len() / 2)),
+        Edit::Drop(list, at) => drop(image.lists[list].remove(at)),
+        Edit::Body(list, at, length) => image.lists[list][at].body.truncate(length),
+        Edit::Field(list, at, name, value) => image.lists[list][at].set(name, value),
+    }
+    image.bytes()
+}
+
+fn smaller_values(value: u64) -> Vec<u64> {
+    let simple = [0, 1, 0x1000, 0x2000];
+    simple.into_iter().chain([value / 2, value & value.wrapping_sub(1)]).filter(|&v| v < value).collect()
+}
+
+/// Without its last bytes; of a short sheet also with a byte set to 0.
+fn bytes(sheet: &[u8]) -> Vec<Vec<u8>> {
+    let mut all = vec![sheet[..sheet.len() / 2].to_vec(), sheet[..sheet.len().saturating_sub(1)].to_vec()];
+    if sheet.len() > 400 {
+        return all;
+    }
+    for at in (0..sheet.len()).filter(|&at| sheet[at] != 0) {
+        let mut zeroed = sheet.to_vec();
+        zeroed[at] = 0;
+        all.push(zeroed);
+    }
+    all
+}
+
+fn calls_below(call: Call) -> Vec<Call> {
+    match call {
+        Call::Verdict => vec![],
+        Call::Relocations { mask, lent } => {
+            let masks = smaller_values(u64::from(mask)).into_iter().map(|mask| Call::Relocations { mask: mask as u32, lent });
+            masks
+                .chain(
+                    [0, lent / 2, lent.saturating_sub(64)].into_iter().filter(|&l| l < lent).map(|lent| Call::Relocations { mask, lent }),
+                )
+                .collect()
+        }
+        Call::BaseValid { mask, region, base } => {
+            let masks = smaller_values(u64::from(mask)).into_iter().map(|mask| Call::BaseValid { mask: mask as u32, region, base });
+            let regions = smaller_values(region).into_iter().map(|region| Call::BaseValid { mask, region, base });
+            masks.chain(regions).chain(smaller_values(base).into_iter().map(|base| Call::BaseValid { mask, region, base })).collect()
+        }
+        Call::Contains { mask, region, gpa } => {
+            let masks = smaller_values(u64::from(mask)).into_iter().map(|mask| Call::Contains { mask: mask as u32, region, gpa });
+            let regions = smaller_values(region).into_iter().map(|region| Call::Contains { mask, region, gpa });
+            masks.chain(regions).chain(smaller_values(gpa).into_iter().map(|gpa| Call::Contains { mask, region, gpa })).collect()
+        }
+    }
+}
+
+/// The difference as text: what differs, the call, and the sheet in hexadecimal digits.
+pub fn text(difference: &Difference) -> String {
+    let hex: String = difference.sheet.iter().take(2000).map(|byte| format!("{byte:02x}")).collect();
+    let length = difference.sheet.len();
+    format!("{:?}: {}\n  sheet of {length} bytes: {hex}", difference.call, difference.what)
+}
