@@ -5,14 +5,10 @@ use mathlib.Core.Path.{sym}
 use native.Mathlib.Omega.{arith}
 use Rattle.addresses.proofs.before_end.Statement.{statement}
 use Rattle.addresses.proofs.before_end.Tie as tie
-use Rattle.addresses.proofs.before_end.Reads as reads
-use Rattle.addresses.proofs.before_end.Lts as lts
 
--- src/lib.rt:29:9
 returns : tie.Need-returns
 returns c = sym (lt-ltb (c .before .args .a) (c .before .args .b + c .before .args .n) (omega arith))
 
--- src/lib.rt:25:1
 returns-2 : tie.Need-returns-2
 returns-2 c = let a = c .before .args .a in let b = c .before .args .b in let n = c .before .args .n in ltb-same (a - b) n a (b + n) (λ h. omega arith) (λ h. omega arith)
 

@@ -5,14 +5,10 @@ use native.Mathlib.Omega.{arith}
 use borrow.Author.Needs.{needs}
 use Rattle.addresses.proofs.ends_beyond.Statement.{statement}
 use Rattle.addresses.proofs.ends_beyond.Tie as tie
-use Rattle.addresses.proofs.ends_beyond.Reads as reads
-use Rattle.addresses.proofs.ends_beyond.Lts as lts
 
--- src/lib.rt:59:5
 sub-result : tie.Need-sub-result
 sub-result c = search needs
 
--- src/lib.rt:56:1
 returns : tie.Need-returns
 unfolding endsBeyond
 returns c = let b = c .args .base in let n = c .args .size in ltb-same (18446744073709551615 - b) n 18446744073709551615 (b + n) (λ h. omega arith) (λ h. omega arith)

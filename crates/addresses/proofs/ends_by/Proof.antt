@@ -5,14 +5,10 @@ use mathlib.Core.Path.{sym}
 use native.Mathlib.Omega.{arith}
 use Rattle.addresses.proofs.ends_by.Statement.{statement}
 use Rattle.addresses.proofs.ends_by.Tie as tie
-use Rattle.addresses.proofs.ends_by.Reads as reads
-use Rattle.addresses.proofs.ends_by.Lts as lts
 
--- src/lib.rt:39:9
 returns : tie.Need-returns
 returns c = sym (lt-leb (c .before .args .b + c .before .args .n) (c .before .args .m) (omega arith))
 
--- src/lib.rt:35:1
 returns-2 : tie.Need-returns-2
 returns-2 c = let b = c .before .args .b in let n = c .before .args .n in let m = c .before .args .m in leb-same n (m - b) (b + n) m (λ h. omega arith) (λ h. omega arith)
 

@@ -2,10 +2,7 @@ use Rattle.addresses.specs.Addresses.{isMultiple}
 use mathlib.Core.Path.{refl}
 use Rattle.addresses.proofs.on_page.Statement.{statement}
 use Rattle.addresses.proofs.on_page.Tie as tie
-use Rattle.addresses.proofs.on_page.Reads as reads
-use Rattle.addresses.proofs.on_page.Lts as lts
 
--- src/lib.rt:18:1
 returns : tie.Need-returns
 unfolding isMultiple
 returns c = refl

@@ -1,29 +1,20 @@
-use Rattle.headers.proofs.HeaderLaws.{body-long}
+use Rattle.sheet.proofs.Readable.{body-least}
 use borrow.Author.Needs.{needs}
 use Rattle.headers.proofs.directive_at.Statement.{statement}
 use Rattle.headers.proofs.directive_at.Tie as tie
-use Rattle.headers.proofs.directive_at.Reads as reads
-use Rattle.headers.proofs.directive_at.Lts as lts
-use Rattle.directive_header.proofs.decode.Reads as decode-reads
-use Rattle.sheet.proofs.Cursor.body.Reads as body-reads
-use Rattle.sheet.proofs.Cursor.kind.Reads as kind-reads
 
--- src/lib.rt:37:30
 kind-requires : tie.Need-kind-requires
 kind-requires c κs = search needs
 
--- src/lib.rt:37:41
 body-requires : tie.Need-body-requires
 body-requires c κs = search needs
 
--- src/lib.rt:37:5
 decode-requires : tie.Need-decode-requires
 decode-requires c κs =
     let k = c .before .kind .ensures in
     let pre = c .before .before .before .pre in
-    (rw k (pre .1), rw (k, c .body .ensures) (body-long _ _ (pre .0)))
+    (rw k (pre .1), rw (k, c .body .ensures) (body-least _ _ (pre .0)))
 
--- src/lib.rt:32:1
 returns : tie.Need-returns
 returns c = cc
 

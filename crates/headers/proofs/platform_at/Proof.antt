@@ -3,7 +3,7 @@ use denote.Ref.{now}
 use borrow.Author.Needs.{needs}
 use Rattle.sheet.specs.Table.{rowKind, bodyOf}
 use Rattle.reader.proofs.ReaderLaws.{row-at-cursor, body-at-cursor}
-use Rattle.headers.proofs.HeaderLaws.{body-long}
+use Rattle.sheet.proofs.Readable.{body-least}
 use Rattle.headers.proofs.platform_at.Statement.{statement}
 use Rattle.headers.proofs.platform_at.Tie as tie
 
@@ -25,7 +25,7 @@ body-of-requires c κs = search needs
 decode-requires : tie.Need-decode-requires
 decode-requires c κs =
     let pre = c .before .before .before .pre in
-    (rw (kind c) (pre .1), rw (kind c, body c) (body-long _ _ (pre .0)))
+    (rw (kind c) (pre .1), rw (kind c, body c) (body-least _ _ (pre .0)))
 
 returns : tie.Need-returns
 returns c = rw (c .decode .ensures, kind (c .before), body (c .before))

@@ -2,10 +2,7 @@ use mathlib.Core.Path.{refl}
 use Rattle.igvm_defs.specs.Platforms.{isPlatformType, platformTypes}
 use Rattle.igvm_defs.proofs.is_platform_type.Statement.{statement}
 use Rattle.igvm_defs.proofs.is_platform_type.Tie as tie
-use Rattle.igvm_defs.proofs.is_platform_type.Reads as reads
-use Rattle.igvm_defs.proofs.is_platform_type.Lts as lts
 
--- src/lib.rt:327:1
 returns : tie.Need-returns
 unfolding isPlatformType platformTypes
 returns c = refl

@@ -5,23 +5,17 @@ use Rattle.igvm_defs.specs.Kinds.{kindOf, spans, noKind}
 use borrow.Author.Needs.{needs}
 use Rattle.igvm_defs.proofs.kind_of.Statement.{statement}
 use Rattle.igvm_defs.proofs.kind_of.Tie as tie
-use Rattle.igvm_defs.proofs.kind_of.Reads as reads
-use Rattle.igvm_defs.proofs.kind_of.Lts as lts
 
--- src/lib.rt:244:16
 mul-result : tie.Need-mul-result
 mul-result c = search needs
 
--- src/lib.rt:244:16
 array-copy-out-result : tie.Need-array-copy-out-result
 array-copy-out-result c = search needs
 
--- src/lib.rt:244:9
 returns : tie.Need-returns
 unfolding kindOf spans
 returns c = let h : c .before .before .args .k < 54 = search needs in at kindOf 54 (c .before .before .args .k) h noKind
 
--- src/lib.rt:239:1
 returns-2 : tie.Need-returns-2
 unfolding kindOf spans
 returns-2 c = sym (past 54 (c .before .args .k) (search needs) spans tt)

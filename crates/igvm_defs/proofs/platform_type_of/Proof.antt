@@ -7,23 +7,17 @@ use Rattle.igvm_defs.specs.Platforms.{platformTypeOf, platformTypes, noP
 use borrow.Author.Needs.{needs}
 use Rattle.igvm_defs.proofs.platform_type_of.Statement.{statement}
 use Rattle.igvm_defs.proofs.platform_type_of.Tie as tie
-use Rattle.igvm_defs.proofs.platform_type_of.Reads as reads
-use Rattle.igvm_defs.proofs.platform_type_of.Lts as lts
 
--- src/lib.rt:339:16
 mul-result : tie.Need-mul-result
 mul-result c = search needs
 
--- src/lib.rt:339:16
 array-copy-out-result : tie.Need-array-copy-out-result
 array-copy-out-result c = search needs
 
--- src/lib.rt:339:9
 returns : tie.Need-returns
 unfolding platformTypeOf platformTypes
 returns c = let h : c .before .before .args .k < 7 = search needs in at platformTypeOf 7 (c .before .before .args .k) h noPlatformType
 
--- src/lib.rt:334:1
 returns-2 : tie.Need-returns-2
 unfolding platformTypeOf platformTypes
 returns-2 c = sym (List·getD-eq-default platformTypes noPlatformType {n = c .before .args .k} (omega arith))

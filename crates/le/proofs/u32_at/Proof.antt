@@ -5,43 +5,31 @@ use native.Mathlib.Omega.{arith}
 use borrow.Author.Needs.{needs}
 use Rattle.le.proofs.u32_at.Statement.{statement}
 use Rattle.le.proofs.u32_at.Tie as tie
-use Rattle.le.proofs.u32_at.Reads as reads
-use Rattle.le.proofs.u32_at.Lts as lts
-use Rattle.le.proofs.four.Reads as four-reads
 
--- src/lib.rt:36:10
 shared-slice-read-four : tie.Need-shared-slice-read-four
 shared-slice-read-four c = search needs
 
--- src/lib.rt:36:19
 add-four : tie.Need-add-four
 add-four c = search needs
 
--- src/lib.rt:36:17
 shared-slice-read-four-2 : tie.Need-shared-slice-read-four-2
 shared-slice-read-four-2 c = search needs
 
--- src/lib.rt:36:30
 add-four-2 : tie.Need-add-four-2
 add-four-2 c = search needs
 
--- src/lib.rt:36:28
 shared-slice-read-four-3 : tie.Need-shared-slice-read-four-3
 shared-slice-read-four-3 c = search needs
 
--- src/lib.rt:36:41
 add-four-3 : tie.Need-add-four-3
 add-four-3 c = search needs
 
--- src/lib.rt:36:39
 shared-slice-read-four-4 : tie.Need-shared-slice-read-four-4
 shared-slice-read-four-4 c = search needs
 
--- src/lib.rt:36:5
 four-requires : tie.Need-four-requires
 four-requires c κs = search needs
 
--- src/lib.rt:32:1
 returns : tie.Need-returns
 unfolding leAt sumBelow
 returns c = rw add-zero (omega arith)

@@ -5,75 +5,55 @@ use native.Mathlib.Omega.{arith}
 use borrow.Author.Needs.{needs}
 use Rattle.le.proofs.u64_at.Statement.{statement}
 use Rattle.le.proofs.u64_at.Tie as tie
-use Rattle.le.proofs.u64_at.Reads as reads
-use Rattle.le.proofs.u64_at.Lts as lts
-use Rattle.le.proofs.eight.Reads as eight-reads
 
--- src/lib.rt:43:11
 shared-slice-read-eight : tie.Need-shared-slice-read-eight
 shared-slice-read-eight c = search needs
 
--- src/lib.rt:43:20
 add-eight : tie.Need-add-eight
 add-eight c = search needs
 
--- src/lib.rt:43:18
 shared-slice-read-eight-2 : tie.Need-shared-slice-read-eight-2
 shared-slice-read-eight-2 c = search needs
 
--- src/lib.rt:43:31
 add-eight-2 : tie.Need-add-eight-2
 add-eight-2 c = search needs
 
--- src/lib.rt:43:29
 shared-slice-read-eight-3 : tie.Need-shared-slice-read-eight-3
 shared-slice-read-eight-3 c = search needs
 
--- src/lib.rt:43:42
 add-eight-3 : tie.Need-add-eight-3
 add-eight-3 c = search needs
 
--- src/lib.rt:43:40
 shared-slice-read-eight-4 : tie.Need-shared-slice-read-eight-4
 shared-slice-read-eight-4 c = search needs
 
--- src/lib.rt:43:53
 add-eight-4 : tie.Need-add-eight-4
 add-eight-4 c = search needs
 
--- src/lib.rt:43:51
 shared-slice-read-eight-5 : tie.Need-shared-slice-read-eight-5
 shared-slice-read-eight-5 c = search needs
 
--- src/lib.rt:43:64
 add-eight-5 : tie.Need-add-eight-5
 add-eight-5 c = search needs
 
--- src/lib.rt:43:62
 shared-slice-read-eight-6 : tie.Need-shared-slice-read-eight-6
 shared-slice-read-eight-6 c = search needs
 
--- src/lib.rt:43:75
 add-eight-6 : tie.Need-add-eight-6
 add-eight-6 c = search needs
 
--- src/lib.rt:43:73
 shared-slice-read-eight-7 : tie.Need-shared-slice-read-eight-7
 shared-slice-read-eight-7 c = search needs
 
--- src/lib.rt:43:86
 add-eight-7 : tie.Need-add-eight-7
 add-eight-7 c = search needs
 
--- src/lib.rt:43:84
 shared-slice-read-eight-8 : tie.Need-shared-slice-read-eight-8
 shared-slice-read-eight-8 c = search needs
 
--- src/lib.rt:43:5
 eight-requires : tie.Need-eight-requires
 eight-requires c κs = search needs
 
--- src/lib.rt:39:1
 returns : tie.Need-returns
 unfolding leAt sumBelow
 returns c = rw add-zero (omega arith)

@@ -7,28 +7,20 @@ use Rattle.answers.specs.Numbers.{numberOf, verdictNumbers, relocationNumbers, 
 use borrow.Author.Needs.{needs}
 use Rattle.numbers.proofs.relocation_number.Statement.{statement}
 use Rattle.numbers.proofs.relocation_number.Tie as tie
-use Rattle.numbers.proofs.relocation_number.Reads as reads
-use Rattle.numbers.proofs.relocation_number.Lts as lts
-use Rattle.numbers.proofs.number_if.Reads as number-if-reads
 
--- src/lib.rt:47:9
 number-if-requires : tie.Need-number-if-requires
 number-if-requires c κs = search needs
 
--- src/lib.rt:56:16
 mul-result : tie.Need-mul-result
 mul-result c = search needs
 
--- src/lib.rt:56:16
 array-read-result : tie.Need-array-read-result
 array-read-result c = search needs
 
--- src/lib.rt:56:9
 returns : tie.Need-returns
 unfolding numberOf
 returns c = let a = c .before .before .before .before .args .a in let t = a .«page_table» in let w = c .before .before .before .before .args .which in ap (λ (x : ℕ). getD (a .refusal .number ∷ a .refusal .row ∷ a .refusal .detail ∷ a .count ∷ x ∷ t .gpa ∷ t .size ∷ t .«used_size» ∷ t .«vp_index» ∷ t .vtl ∷ []) w 0) (c .before .number-if .ensures)
 
--- src/lib.rt:37:1
 returns-2 : tie.Need-returns-2
 unfolding numberOf
 returns-2 c = sym (List·getD-eq-default (relocationNumbers (c .before .before .before .before .args .a)) 0 {n = c .before .before .before .before .args .which} (omega arith))

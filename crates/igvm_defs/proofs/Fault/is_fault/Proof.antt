@@ -2,10 +2,7 @@ use Rattle.igvm_defs.specs.Refusals.{isFault}
 use mathlib.Core.Path.{refl}
 use Rattle.igvm_defs.proofs.Fault.is_fault.Statement.{statement}
 use Rattle.igvm_defs.proofs.Fault.is_fault.Tie as tie
-use Rattle.igvm_defs.proofs.Fault.is_fault.Reads as reads
-use Rattle.igvm_defs.proofs.Fault.is_fault.Lts as lts
 
--- src/lib.rt:51:5
 returns : tie.Need-returns
 unfolding isFault
 returns c = refl

@@ -2,10 +2,7 @@ use Rattle.igvm_defs.specs.Refusals.{isRefusal}
 use mathlib.Core.Path.{refl}
 use Rattle.igvm_defs.proofs.Refusal.is_refusal.Statement.{statement}
 use Rattle.igvm_defs.proofs.Refusal.is_refusal.Tie as tie
-use Rattle.igvm_defs.proofs.Refusal.is_refusal.Reads as reads
-use Rattle.igvm_defs.proofs.Refusal.is_refusal.Lts as lts
 
--- src/lib.rt:73:5
 returns : tie.Need-returns
 unfolding isRefusal
 returns c = refl

@@ -2,20 +2,15 @@ use borrow.Author.Tests.{ne-eqb}
 use Rattle.igvm_defs.specs.Vtls.{vtlOf}
 use Rattle.igvm_defs.proofs.Vtl.new.Statement.{statement}
 use Rattle.igvm_defs.proofs.Vtl.new.Tie as tie
-use Rattle.igvm_defs.proofs.Vtl.new.Reads as reads
-use Rattle.igvm_defs.proofs.Vtl.new.Lts as lts
 
--- src/lib.rt:409:5
 returns : tie.Need-returns
 unfolding vtlOf
 returns c = rw (c .match .keys1)
 
--- src/lib.rt:409:5
 returns-2 : tie.Need-returns-2
 unfolding vtlOf
 returns-2 c = rw (c .match .keys2)
 
--- src/lib.rt:409:5
 returns-3 : tie.Need-returns-3
 unfolding vtlOf
 returns-3 c = simp (ne-eqb _ _ (c .match .rest .0 .1), ne-eqb _ _ (c .match .rest .1))
