@@ -198,20 +198,6 @@ impl RelocRegions {
         }
     }
 
-    pub fn entry(self, i: usize) -> Region
-        requires { ⌜ i < 64 ⌝ }
-        ensures { λ r. ⌜ r ≡ entry self i ⌝ }
-    {
-        Region {
-            mask: self.mask[i],
-            gpa: self.gpa[i],
-            size: self.size[i],
-            vp_index: self.vp_index[i],
-            vtl: self.vtl[i],
-            page_table: self.page_table[i],
-        }
-    }
-
     fn push(self, r: Region) -> RelocRegions
         requires { ⌜ self .count < 64 ⌝ }
         ensures { λ q. ⌜ Pushed self r q ⌝ }
@@ -237,7 +223,15 @@ impl RelocRegions {
         let mut i = 0;
         let mut found = false;
         while i < n {
-            found = found | tables_share(r, self.entry(i));
+            let q = Region {
+                mask: self.mask[i],
+                gpa: self.gpa[i],
+                size: self.size[i],
+                vp_index: self.vp_index[i],
+                vtl: self.vtl[i],
+                page_table: self.page_table[i],
+            };
+            found = found | tables_share(r, q);
             i += 1;
         }
         found
@@ -252,7 +246,15 @@ impl RelocRegions {
         let mut i = 0;
         let mut found = false;
         while i < n {
-            found = found | overlap(r, self.entry(i));
+            let q = Region {
+                mask: self.mask[i],
+                gpa: self.gpa[i],
+                size: self.size[i],
+                vp_index: self.vp_index[i],
+                vtl: self.vtl[i],
+                page_table: self.page_table[i],
+            };
+            found = found | overlap(r, q);
             i += 1;
         }
         found
@@ -267,7 +269,15 @@ impl RelocRegions {
         let mut i = 0;
         let mut found = false;
         while i < n {
-            found = found | table_holds(mask, gpa, self.entry(i));
+            let q = Region {
+                mask: self.mask[i],
+                gpa: self.gpa[i],
+                size: self.size[i],
+                vp_index: self.vp_index[i],
+                vtl: self.vtl[i],
+                page_table: self.page_table[i],
+            };
+            found = found | table_holds(mask, gpa, q);
             i += 1;
         }
         found
