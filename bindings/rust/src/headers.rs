@@ -22,12 +22,12 @@ pub enum Vtl {
 }
 
 impl Vtl {
-    pub fn code(self) -> u8 {
+    pub(crate) fn code(self) -> u8 {
         self as u8
     }
 
     /// None for a code above 2.
-    pub fn from_code(code: u64) -> Option<Vtl> {
+    pub(crate) fn from_code(code: u64) -> Option<Vtl> {
         [Vtl::Vtl0, Vtl::Vtl1, Vtl::Vtl2].into_iter().find(|vtl| u64::from(vtl.code()) == code)
     }
 }

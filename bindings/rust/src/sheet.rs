@@ -39,9 +39,10 @@ impl Sheet {
     pub fn bytes(&self) -> Result<Vec<u8>, SheetError> {
         let mut sheet = self.head()?;
         let rows = self.rows();
-        for (index, row) in rows.iter().enumerate() {
+        let lengths = body_lengths(rows.iter().map(|row| row.fields.len() + row.opaque.len()))?;
+        for (row, length) in rows.iter().zip(lengths) {
             sheet.extend(row.kind.to_le_bytes());
-            sheet.extend(body_length(index + 1, row.fields.len() + row.opaque.len())?.to_le_bytes());
+            sheet.extend(length.to_le_bytes());
         }
         for row in &rows {
             sheet.extend(&row.fields);
@@ -76,8 +77,8 @@ fn row_count(list: &'static str, rows: usize) -> Result<u16, SheetError> {
     u16::try_from(rows).map_err(|_| SheetError::TooManyRows { list, rows })
 }
 
-fn body_length(row: usize, bytes: usize) -> Result<u32, SheetError> {
-    u32::try_from(bytes).map_err(|_| SheetError::BodyTooLong { row, bytes })
+fn body_lengths(lengths: impl Iterator<Item = usize>) -> Result<Vec<u32>, SheetError> {
+    (1..).zip(lengths).map(|(row, bytes)| u32::try_from(bytes).map_err(|_| SheetError::BodyTooLong { row, bytes })).collect()
 }
 
 /// A row of the sheet. Its body is the fields and then the opaque bytes.
@@ -219,8 +220,8 @@ mod tests {
 
     #[test]
     fn a_body_of_2_to_the_32_bytes_is_too_long() {
-        assert_eq!(body_length(1, 0xFFFF_FFFF), Ok(0xFFFF_FFFF));
-        let error = body_length(3, 0x1_0000_0000).unwrap_err();
+        assert_eq!(body_lengths([5, 0xFFFF_FFFF].into_iter()), Ok(vec![5, 0xFFFF_FFFF]));
+        let error = body_lengths([5, 0xFFFF_FFFF, 0x1_0000_0000].into_iter()).unwrap_err();
         assert_eq!(error, SheetError::BodyTooLong { row: 3, bytes: 0x1_0000_0000 });
         assert_eq!(error.to_string(), "the body of row 3 has 4294967296 bytes, of which a sheet holds at most 4294967295");
     }
