@@ -126,7 +126,7 @@ pub fn relocations(sheet: &[u8], mask: u32) -> Result<Relocations, Refusal> {
 /// The same with the regions in the bytes that are lent, as [`IgvmRelocatableRegion::from_words`] reads them. Bytes behind them are as they were, and after a refusal
 /// all are.
 pub fn relocations_into(sheet: &[u8], mask: u32, words: &mut [u8]) -> Result<Filled, Refusal> {
-    // SAFETY: the pointers and the lengths are those of slices; nothing behind the first is written.
+    // SAFETY: the pointers and the lengths are those of two slices that share nothing; the sheet is only read.
     let mut ask = |which| unsafe { linked::igvm_relocations(sheet.as_ptr(), sheet.len(), mask, words.as_mut_ptr(), words.len(), which) };
     accepted(&mut ask)?;
     let count = usize::try_from(ask(3)).expect(BROKEN);
