@@ -1,4 +1,4 @@
-"""The verdict of document 01 on a sheet, written from the paper alone and as plainly as it goes.
+"""The verdict of document 01 on a sheet, and the refusals of its queries, written from the paper alone and as plainly as it goes.
 
 It serves one purpose: `sheets.py --check` holds the lines that are written by hand beside the samples against it.
 Rows are numbered from 1 across the lists, as in the paper.
@@ -170,20 +170,51 @@ def directive_rows(arch, page_tables, rows):
     return contexts
 
 
-def verdict(s):
-    """The counts of rows of an accepted sheet; else Refused is raised."""
-    arch, (platforms, initializations, directives) = read(s)
-    of_mask = platform_rows(arch, platforms)
-    regions, page_tables = initialization_rows(arch, of_mask, initializations)
-    contexts = directive_rows(arch, page_tables, directives)
+def admitted(s):
+    """The three lists of an accepted sheet and the masks of its kind 18 regions; else Refused is raised."""
+    arch, lists = read(s)
+    of_mask = platform_rows(arch, lists[0])
+    regions, page_tables = initialization_rows(arch, of_mask, lists[1])
+    contexts = directive_rows(arch, page_tables, lists[2])
     for mask, _, _, vp, vtl in regions + page_tables:
         refuse(vp != 0 or not any(mask & mask2 and vtl == vtl2 for mask2, vtl2 in contexts), 34)
-    return len(platforms), len(initializations), len(directives)
+    return lists, [mask for mask, *_ in regions]
 
 
-def line(s):
-    """The line that `admit` writes of a sheet; a sheet of more than 65,536 bytes is answered as by the call."""
+def verdict(s):
+    """The counts of rows of an accepted sheet."""
+    lists, _ = admitted(s)
+    return "accepted %d %d %d" % tuple(map(len, lists))
+
+
+def count(s, mask):
+    """35: how many regions match the query mask, those whose mask holds every bit of it."""
+    _, masks = admitted(s)
+    refuse(mask == 0, 35)
+    return sum(mask2 & mask == mask for mask2 in masks)
+
+
+def relocations(s, mask, lent):
+    """37: eight words for each region, in the bytes lent."""
+    regions = count(s, mask)
+    refuse(lent // 8 < 8 * regions, 37)
+    return "answered"
+
+
+def check(s, mask, region, **_):
+    """36: the base check and the address check of the region of this number."""
+    refuse(region >= count(s, mask), 36)
+    return "answered"
+
+
+CALLS = {"verdict": verdict, "relocations": relocations, "relocation_base_valid": check, "contains": check}
+
+
+def line(s, call="verdict"):
+    """The line that `admit` writes of a sheet, where the call is the verdict; a sheet of more than 65,536 bytes is answered as by the call.
+    Another call has the names of its numbers, each before its number: `relocations mask 1 lent 64`. Where it is refused, the line says so likewise."""
+    name, *words = call.split()
     try:
-        return "accepted %d %d %d" % verdict(s)
+        return CALLS[name](s, **dict(zip(words[::2], map(int, words[1::2]))))
     except Refused as refusal:
         return "refused %d row %d detail %d" % refusal.args

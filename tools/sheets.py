@@ -8,10 +8,11 @@ other numbers in its head. A is B on AArch64. What can't be said in this way cha
 
 The line beside a sample is written by hand from the paper. `--check` holds it against tools/model.py.
 
-    tools/sheets.py --check              every line against the model, and the files of crates/admit_sheets against the samples
+    tools/sheets.py --check              every line against the model, and the files of crates/admit_sheets and of samples against what is written
     tools/sheets.py --list               each sample's name, line and description
     tools/sheets.py --write DIR NAME..   write these samples (no NAME: all of up to 65,536 bytes) into DIR, and print 'name: line' for each
     tools/sheets.py --gate               write args, data/ and stdout of the program crates/admit_sheets
+    tools/sheets.py --samples            write the folder samples: one sheet for each refusal and some accepted ones, with a README
 """
 
 import sys
@@ -535,7 +536,8 @@ refused("02-before-03-bytes", 0, 0, "16,777,217 zero bytes", lambda: bytes(LIMIT
 # ---- the program of the gate
 
 ADMIT_BYTES = 65536
-CRATE = Path(__file__).resolve().parent.parent / "crates" / "admit_sheets"
+REPOSITORY = Path(__file__).resolve().parent.parent
+CRATE = REPOSITORY / "crates" / "admit_sheets"
 
 
 def small():
@@ -558,25 +560,142 @@ def gate_files():
     return files
 
 
-def check():
-    wrong = 0
+# ---- the folder samples
+
+
+@dataclass(frozen=True)
+class Shown:
+    """A file of the folder: the sample that it holds, what it shows, and a call with its line where it is not the verdict's."""
+
+    file: str
+    name: str
+    what: str
+    call: str = "verdict"
+    line: str = None
+
+    def sample(self):
+        return named([self.name])[0]
+
+    def answer(self):
+        return self.line or self.sample().line
+
+
+SHOWN = [
+    Shown("accepted-image-b", "b", "image B: a NATIVE platform, a relocatable region and its VBS context"),
+    Shown("accepted-revision-2", "v2", "image B of revision 2: X64, page size 4096"),
+    Shown("accepted-aarch64", "aarch64", "AArch64: a VSM_ISOLATION platform, a region and its context"),
+    Shown("accepted-every-x64-kind", "every-x64-kind", "a row of every kind that X64 takes"),
+    Shown("accepted-every-aarch64-kind", "every-aarch64-kind", "a row of every kind that AArch64 takes, on a CCA platform"),
+    Shown("accepted-six-platforms", "x64-types", "every platform type of X64, each with a mask of its own"),
+    Shown("accepted-page-table", "page-table", "a relocatable region and a page-table region"),
+    Shown("accepted-three-vtls", "vtls", "three regions of one mask, each with a context of its VTL"),
+    Shown("accepted-two-masks", "apart-by-mask", "regions of masks 1 and 2 at one place"),
+    Shown("accepted-areas", "areas", "two parameter areas, named and inserted in turn"),
+    Shown("accepted-largest-lists", "largest-lists", "as many rows as can be accepted"),
+    Shown("01-empty", "01-empty", "no bytes at all"),
+    Shown("02-revision-0", "02-revision-0", "a head of revision 0"),
+    Shown("03-65-initializations", "03-65-initializations", "65 initialization rows, of at most 64"),
+    Shown("04-kind-0", "04-kind-0", "a platform row of kind 0"),
+    Shown("05-vtl-3", "05-vtl-18", "a region of VTL 3, of at most 2"),
+    Shown("06-one-byte-more", "06-byte", "a byte behind the last body"),
+    Shown("07-page-size-8192", "07-8192", "page size 8192; the detail is the page size"),
+    Shown("08-platform-mask-3", "08-mask-3", "a platform with two mask bits"),
+    Shown("09-highest-vtl-1", "09-highest-vtl-1", "a platform of highest VTL 1: 0 and 2 are known"),
+    Shown("10-version-2", "10-type-0", "version 2 of a NATIVE platform: 1 is known"),
+    Shown("11-boundary", "11-type-0", "a NATIVE platform with a shared GPA boundary"),
+    Shown("12-platform-type-7", "12-type-7", "a platform type that is not in the table"),
+    Shown("13-cca-on-x64", "13-type-6", "a CCA platform on X64; the detail is the type"),
+    Shown("14-platform-twice", "14-twice", "two platforms of one type"),
+    Shown("15-no-platform", "15-no-rows", "a sheet without rows"),
+    Shown("16-zeroes-and-ones", "16-cca", "a CcaPolicy that asks one bit to be both 0 and 1"),
+    Shown("17-size-2001", "17-size", "a region whose size is no multiple of 4096"),
+    Shown("18-alignment-800", "18-800", "a region whose alignment is no multiple of 4096"),
+    Shown("19-alignment-zero", "19-alignment", "a region of alignment 0, on which the Rust panics"),
+    Shown("20-gpa-off-alignment", "20-gpa", "a region's gpa off its alignment; the detail is the gpa"),
+    Shown("21-gpa-1", "21-page-table", "a page-table region at gpa 1; the detail is the gpa"),
+    Shown("22-size-1", "22-size", "a page-table region of size 1; the detail is the size"),
+    Shown("23-used-above-size", "23-used", "a page-table region whose used size is above its size"),
+    Shown("24-aarch64-context-on-x64", "24-kind-48", "an AArch64VbsVpContext on X64; the detail is the kind"),
+    Shown("25-policy-without-cca", "25-type-1", "a CcaPolicy of a mask without a CCA platform; the detail is the mask bit"),
+    Shown("26-two-page-tables", "26-two", "two page-table regions of one mask"),
+    Shown("27-size-zero", "27-size-0", "a region of size 0"),
+    Shown("28-end-at-2-64", "28-region", "a region whose gpa and size add up to 2^64"),
+    Shown("29-overlap", "29-region", "two regions of one mask that share a page"),
+    Shown("30-page-type-4", "30-type-4", "a page of a type that is not in the table"),
+    Shown("31-data-4097", "31-page", "a page of 4,097 bytes"),
+    Shown("32-no-area", "32-kind-34", "a VpCount that names an area which is not allocated"),
+    Shown("33-insert-in-page-table", "33-gpa", "a parameter area inserted at the page-table region's gpa"),
+    Shown("34-no-context", "34-mask", "a region of mask 1, a context of mask 2"),
+    Shown("35-mask-zero", "b", "a query of mask 0", "relocations mask 0 lent 64", "refused 35 row 0 detail 0"),
+    Shown("36-region-1", "b", "region 1 where there is one region: numbers count from 0",
+          "relocation_base_valid mask 1 region 1 base 1048576", "refused 36 row 0 detail 0"),
+    Shown("37-seven-words", "b", "seven words lent, where a region takes eight", "relocations mask 1 lent 56", "refused 37 row 0 detail 0"),
+]
+
+FOLDER = REPOSITORY / "samples"
+README = """# Sample sheets
+
+One sheet for each refusal and some that are accepted. `admit` answers the verdict:
+
+    rt check admit && target/bin/admit < samples/19-alignment-zero.sheet
+
+The verdict accepts the last three; it is the call beside them that is refused (`lent` is in bytes). `tools/sheets.py --samples` writes this folder, and
+`tools/sheets.py --check` holds it to the samples and the lines of its list.
+
+| file | call | answer | what it shows |
+|---|---|---|---|
+"""
+
+
+def sample_files():
+    """The files of the folder by name."""
+    files = {shown.file + ".sheet": shown.sample().bytes() for shown in SHOWN}
+    rows = [f"| `{shown.file}.sheet` | `{shown.call}` | `{shown.answer()}` | {shown.what} |\n" for shown in SHOWN]
+    files["README.md"] = (README + "".join(rows)).encode()
+    return files
+
+
+# ---- the commands
+
+
+def wrong_lines():
+    """A message for each line that is not the model's."""
     for sample in SAMPLES:
         said = model.line(sample.bytes())
         if said != sample.line:
-            wrong += 1
-            print(f"{sample.name}: {sample.line}; the model says {said}")
-    names = [sample.name for sample in SAMPLES]
-    for name in sorted({name for name in names if names.count(name) > 1}):
-        wrong += 1
-        print(f"{name}: two samples of this name")
-    files = gate_files()
-    there = {"data/" + path.name for path in (CRATE / "data").iterdir()} | {"args", "stdout"}
+            yield f"{sample.name}: {sample.line}; the model says {said}"
+    for shown in SHOWN:
+        said = model.line(shown.sample().bytes(), shown.call)
+        if said != shown.answer():
+            yield f"{shown.file}: {shown.call}: {shown.answer()}; the model says {said}"
+
+
+def wrong_names():
+    """A message for each name that is given twice, and for each refusal that the folder does not show."""
+    for names in [sample.name for sample in SAMPLES], [shown.file for shown in SHOWN]:
+        for name in sorted({name for name in names if names.count(name) > 1}):
+            yield f"{name}: two samples of this name"
+    refusals = {int(shown.answer().split()[1]) for shown in SHOWN if shown.answer().startswith("refused")}
+    for number in sorted(set(range(1, 38)) - refusals):
+        yield f"{FOLDER}: refusal {number} is not shown"
+
+
+def wrong_files(folder, files, parts, mode):
+    """A message for each file in these parts of the folder that is not what the mode writes."""
+    there = {str(path.relative_to(folder)) for part in parts for path in folder.glob(part)}
     for name in sorted(there | set(files)):
-        if name not in files or not (CRATE / name).exists() or (CRATE / name).read_bytes() != files[name]:
-            wrong += 1
-            print(f"{CRATE / name}: not what --gate writes")
-    print(f"{len(SAMPLES)} samples, {wrong} wrong")
-    return wrong != 0
+        if name not in files or name not in there or (folder / name).read_bytes() != files[name]:
+            yield f"{folder / name}: not what {mode} writes"
+
+
+def check():
+    wrong = [*wrong_lines(), *wrong_names()]
+    wrong += wrong_files(CRATE, gate_files(), ("data/*", "args", "stdout"), "--gate")
+    wrong += wrong_files(FOLDER, sample_files(), ("*",), "--samples")
+    for message in wrong:
+        print(message)
+    print(f"{len(SAMPLES)} samples, {len(wrong)} wrong")
+    return len(wrong) != 0
 
 
 def write(folder, names):
@@ -586,10 +705,10 @@ def write(folder, names):
         print(f"{sample.name}: {sample.line}")
 
 
-def gate():
-    for name, content in gate_files().items():
-        (CRATE / name).parent.mkdir(parents=True, exist_ok=True)
-        (CRATE / name).write_bytes(content)
+def write_files(folder, files):
+    for name, content in files.items():
+        (folder / name).parent.mkdir(parents=True, exist_ok=True)
+        (folder / name).write_bytes(content)
 
 
 def main(words):
@@ -602,7 +721,9 @@ def main(words):
         case ["--write", folder, *names]:
             write(Path(folder), names)
         case ["--gate"]:
-            gate()
+            write_files(CRATE, gate_files())
+        case ["--samples"]:
+            write_files(FOLDER, sample_files())
         case _:
             print(__doc__)
             return 2

@@ -1,0 +1,47 @@
+//! A host that reads a sheet from standard input, asks for the verdict, and for a mask (the argument, in hexadecimal digits; 1 without it) its regions, whether
+//! each may stay where it is, and its page-table region. It writes what examples/host.c of the repository does, and a refusal's reason to standard error.
+
+use sapyullu::{contains, relocation_base_valid, relocations, verdict, Refusal};
+use std::io::Read;
+use std::process::ExitCode;
+
+/// One byte more than the longest sheet, so that a longer input is refused, not cut.
+const MOST_BYTES: u64 = 16_777_217;
+
+fn answer(sheet: &[u8], mask: u32) -> Result<(), Refusal> {
+    println!("{}", verdict(sheet)?.line());
+    let found = relocations(sheet, mask)?;
+    for (number, region) in (0..).zip(&found.regions) {
+        let stays = relocation_base_valid(sheet, mask, number, region.base_gpa)?;
+        let holds = contains(sheet, mask, number, region.base_gpa)?;
+        println!(
+            "region {number}: base {:#x} size {:#x}, may stay: {}, holds its base: {}",
+            region.base_gpa,
+            region.size,
+            u8::from(stays),
+            u8::from(holds)
+        );
+    }
+    if let Some(table) = found.page_table {
+        println!("page table: gpa {:#x} size {:#x} used {:#x}", table.gpa, table.size, table.used_size);
+    }
+    Ok(())
+}
+
+fn main() -> ExitCode {
+    let word = std::env::args().nth(1).unwrap_or("1".to_string());
+    let mut sheet = Vec::new();
+    let read = std::io::stdin().take(MOST_BYTES).read_to_end(&mut sheet);
+    let (Ok(mask), Ok(_)) = (u32::from_str_radix(&word, 16), read) else {
+        eprintln!("usage: host [MASK] < SHEET");
+        return ExitCode::from(2);
+    };
+    match answer(&sheet, mask) {
+        Ok(()) => ExitCode::SUCCESS,
+        Err(refusal) => {
+            println!("{}", refusal.line());
+            eprintln!("{refusal}");
+            ExitCode::FAILURE
+        }
+    }
+}

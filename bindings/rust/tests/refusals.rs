@@ -1,0 +1,52 @@
+//! Refusals as values: numbers, names and text.
+
+use sapyullu::{Error, Refusal};
+
+#[test]
+fn numbers_and_errors_go_together() {
+    for number in [0..=40, 255..=257, u64::MAX - 1..=u64::MAX].into_iter().flatten() {
+        let error = Error::from_number(number);
+        assert_eq!(error.number(), number);
+        assert_eq!(error == Error::Unknown(number), !(1..=37).contains(&number), "{number}");
+    }
+    assert_eq!(Error::from_number(1), Error::SheetEndsEarly);
+    assert_eq!(Error::from_number(37), Error::TooFewWordsLent);
+}
+
+#[test]
+fn names_are_the_rusts_where_it_has_one() {
+    let name = |number| Error::from_number(number).name();
+    assert_eq!(name(7), "UnsupportedPageSize");
+    assert_eq!(name(14), "MultiplePlatformHeadersWithSameIsolation");
+    assert_eq!(name(24), "InvalidHeaderArch");
+    assert_eq!(name(34), "NoMatchingVpContext");
+    assert_eq!(name(38), "Unknown");
+    assert!((1..=37).all(|number| name(number) == format!("{:?}", Error::from_number(number))));
+}
+
+#[test]
+fn a_refusal_says_its_row_and_its_detail() {
+    let text = |number, row, detail| Refusal::from_numbers(number, row, detail).to_string();
+    assert_eq!(text(15, 0, 0), "refusal 15 (NoPlatformHeaders): there is no platform header");
+    assert_eq!(text(7, 0, 8192), "refusal 7 (UnsupportedPageSize): the page size is not 4096 (page size 8192)");
+    assert_eq!(text(19, 2, 0), "refusal 19 (RelocationAlignmentZero) in row 2: the relocatable region's alignment is 0");
+    assert_eq!(
+        text(13, 1, 6),
+        "refusal 13 (PlatformArchUnsupported) in row 1: the architecture does not have the platform type (platform type 6)"
+    );
+    assert_eq!(text(21, 3, 0x1800), "refusal 21 (UnalignedAddress) in row 3: the gpa is not a multiple of 4096 (address 0x1800)");
+    assert_eq!(text(99, 3, 5), "refusal 99 (Unknown) in row 3: the library refuses for a reason that this crate does not know (detail 5)");
+}
+
+#[test]
+fn a_refusal_has_the_line_of_admit() {
+    assert_eq!(Refusal::from_numbers(19, 2, 0).line(), "refused 19 row 2 detail 0");
+    assert_eq!(Refusal::from_numbers(7, 0, 8192).line(), "refused 7 row 0 detail 8192");
+    assert_eq!(Refusal::from_numbers(99, 0, 0).line(), "refused 99 row 0 detail 0");
+}
+
+#[test]
+fn a_refusal_is_an_error_value() {
+    let boxed: Box<dyn std::error::Error + Send + Sync> = Refusal::from_numbers(35, 0, 0).into();
+    assert_eq!(boxed.to_string(), "refusal 35 (QueryMaskZero): the query's mask is 0");
+}

@@ -1,0 +1,82 @@
+//! Every sheet of the folder samples gets the answer that its list says, and every refusal is among them.
+
+use sapyullu::*;
+use std::collections::BTreeSet;
+use std::fs;
+use std::path::Path;
+
+const FOLDER: &str = concat!(env!("CARGO_MANIFEST_DIR"), "/../../samples");
+
+/// A line of the list: file, call, answer.
+struct Sample {
+    file: String,
+    call: String,
+    answer: String,
+}
+
+fn samples() -> Vec<Sample> {
+    let list = fs::read_to_string(Path::new(FOLDER).join("README.md")).unwrap();
+    let cells = |line: &str| line.split(" | ").map(|cell| cell.trim_matches(['|', ' ', '`']).to_string()).collect::<Vec<_>>();
+    let rows = list.lines().filter(|line| line.starts_with("| `")).map(cells);
+    rows.map(|mut row| Sample { file: row.remove(0), call: row.remove(0), answer: row.remove(0) }).collect()
+}
+
+impl Sample {
+    fn sheet(&self) -> Vec<u8> {
+        fs::read(Path::new(FOLDER).join(&self.file)).unwrap()
+    }
+
+    /// The call's answer: a line of an accepted verdict, nothing for other calls that are answered, or the refusal.
+    fn made(&self) -> Result<String, Refusal> {
+        let sheet = self.sheet();
+        let words: Vec<&str> = self.call.split(' ').collect();
+        let number = |word: &str| word.parse::<u64>().unwrap();
+        match words[..] {
+            ["verdict"] => verdict(&sheet).map(|counts| counts.line()),
+            ["relocations", "mask", mask, "lent", lent] => {
+                let mut lent = vec![0; number(lent) as usize];
+                relocations_into(&sheet, number(mask) as u32, &mut lent).map(|_| String::new())
+            }
+            ["relocation_base_valid", "mask", mask, "region", region, "base", base] => {
+                relocation_base_valid(&sheet, number(mask) as u32, number(region), number(base)).map(|_| String::new())
+            }
+            _ => panic!("no such call: {}", self.call),
+        }
+    }
+}
+
+#[test]
+fn every_sample_gets_the_answer_of_the_list() {
+    for sample in samples() {
+        let said = sample.made().unwrap_or_else(|refusal| refusal.line());
+        assert_eq!(said, sample.answer, "{}: {}", sample.file, sample.call);
+    }
+}
+
+#[test]
+fn the_list_names_every_file() {
+    let listed: BTreeSet<String> = samples().into_iter().map(|sample| sample.file).collect();
+    let entries = fs::read_dir(FOLDER).unwrap().map(|entry| entry.unwrap().file_name().into_string().unwrap());
+    assert_eq!(listed, entries.filter(|name| name != "README.md").collect());
+}
+
+#[test]
+fn every_refusal_has_a_sample_and_a_name() {
+    let refusals: Vec<Error> = samples().iter().filter_map(|sample| sample.made().err()).map(|refusal| refusal.error).collect();
+    assert_eq!(refusals.iter().map(|error| error.number()).collect::<Vec<_>>(), (1..=37).collect::<Vec<_>>());
+    let names: BTreeSet<&str> = refusals.iter().map(|error| error.name()).collect();
+    assert_eq!(names.len(), 37);
+    assert!(!names.contains("Unknown"));
+}
+
+#[test]
+fn a_query_of_a_refused_sheet_gives_the_verdicts_refusal() {
+    for sample in samples() {
+        let sheet = sample.sheet();
+        if let Err(refusal) = verdict(&sheet) {
+            assert_eq!(relocations(&sheet, 0), Err(refusal), "{}", sample.file);
+            assert_eq!(relocation_base_valid(&sheet, 1, 9, 0), Err(refusal), "{}", sample.file);
+            assert_eq!(contains(&sheet, 1, 9, 0), Err(refusal), "{}", sample.file);
+        }
+    }
+}
