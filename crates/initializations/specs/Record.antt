@@ -1,7 +1,8 @@
 -- The record of the regions read so far, and the rows that it stands for, in whatever order it keeps them.
 use Prim.Native.Nat.{ℕ, _+_, _≤_}
 use mathlib.Core.Path.{_≡_}
-use mathlib.Core.Bool.{Bool, false, _||_}
+use mathlib.Core.Bool.{Bool, false, _||_, _&&_}
+use mathlib.Core.List.{List}
 use lib.Dec.{eqb}
 use lib.ListN.{getD}
 use Rattle.rows.specs.Below.{anyBelow}
@@ -9,7 +10,8 @@ use Rattle.rows.specs.Rows.{Rows, any, before}
 use Rattle.igvm_defs.specs.declared.Arch.{Arch}
 use Rattle.igvm_defs.specs.declared.Fault.{Fault}
 use Rattle.igvm_defs.specs.Refusals.{fault, noFault, refuse, orFault}
-use Rattle.addresses.specs.Addresses.{endsBeyond}
+use Rattle.addresses.specs.Addresses.{endsBeyond, contains, meets}
+use Rattle.masks.specs.Masks.{shares}
 use Rattle.platform_header.specs.declared.IgvmPlatformHeader.{IgvmPlatformHeader}
 use Rattle.initialization_header.specs.declared.IgvmInitializationHeader.{IgvmInitializationHeader}
 use Rattle.rules.specs.declared.Region.{Region}
@@ -32,6 +34,21 @@ entry r i =
 -- some region of the record passes
 abbrev pub anyRegion : (Region → Bool) → RelocRegions → Bool
 anyRegion p r = anyBelow (r .count) (λ i. p (entry r i))
+
+-- The same for the three tests, over the arrays of the record and how many regions they have.
+
+-- some region is a page table, as r is, and shares a bit with it
+abbrev pub anyTablesShare : Region → List ℕ → List Bool → ℕ → Bool
+anyTablesShare r masks tables n = anyBelow n (λ i. r .«page_table» && getD tables i false && shares (r .mask) (getD masks i 0))
+
+-- some region shares a bit with r, and an address
+abbrev pub anyOverlap : Region → List ℕ → List ℕ → List ℕ → ℕ → Bool
+anyOverlap r masks gpas sizes n = anyBelow n (λ i. shares (r .mask) (getD masks i 0) && meets (r .gpa) (r .size) (getD gpas i 0) (getD sizes i 0))
+
+-- some region is a page table, shares a bit with the mask and contains the address
+abbrev pub anyTableHolds : ℕ → ℕ → List ℕ → List ℕ → List ℕ → List Bool → ℕ → Bool
+anyTableHolds mask gpa masks gpas sizes tables n =
+    anyBelow n (λ i. getD tables i false && shares (getD masks i 0) mask && contains (getD gpas i 0) (getD sizes i 0) gpa)
 
 -- the record q is the record r with one region more, in whatever order
 pub record Pushed (r : RelocRegions) (new : Region) (q : RelocRegions) : Type 0 where

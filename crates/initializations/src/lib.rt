@@ -10,7 +10,7 @@ ghost use Rattle.masks.specs.Masks.{individualMasks, firstMask};
 ghost use Rattle.platforms.specs.Record.{HoldsPlatforms, lastTypeIsCca};
 ghost use Rattle.rules.specs.Regions.{tablesShare, overlap, tableHolds};
 ghost use Rattle.rules.specs.Initializations.{validateAddresses, validateRegion, validateTable, validateInitialization, refuseBit};
-ghost use Rattle.initializations.specs.Record.{entry, anyRegion, Pushed, regionFault, HoldsRegions, InitializationStepped};
+ghost use Rattle.initializations.specs.Record.{anyRegion, anyTablesShare, anyOverlap, anyTableHolds, Pushed, regionFault, HoldsRegions, InitializationStepped};
 use igvm_defs::Arch;
 use igvm_defs::Fault;
 use initialization_header::IgvmInitializationHeader;
@@ -139,22 +139,65 @@ pub struct RelocRegions {
     pub count: usize,
 }
 
-fn tables_share(r: Region, q: Region) -> bool
-    ensures { λ s. ⌜ s ≡ tablesShare r q ⌝ }
+// Some of the first n regions is a page table, as r is, and shares a bit with it.
+fn any_tables_share<'a>(r: Region, masks: &'a [u32; 64], tables: &'a [bool; 64], n: usize) -> bool
+    requires { ⌜ n ≤ 64 ⌝ }
+    ensures { λ s. ⌜ s ≡ anyTablesShare r (now (masks .entry)) (now (tables .entry)) n ⌝ }
 {
-    r.page_table & q.page_table & masks::shares(r.mask, q.mask)
+    let mut i = 0;
+    let mut found = false;
+    while i < n {
+        found = found | (r.page_table & tables[i] & masks::shares(r.mask, masks[i]));
+        i += 1;
+    }
+    found
 }
 
-fn overlap(r: Region, q: Region) -> bool
-    ensures { λ s. ⌜ s ≡ overlap r q ⌝ }
+// Some of the first n regions shares a bit with r, and an address.
+fn any_overlap<'a>(
+    r: Region,
+    masks: &'a [u32; 64],
+    gpas: &'a [u64; 64],
+    sizes: &'a [u64; 64],
+    n: usize,
+) -> bool
+    requires { ⌜ n ≤ 64 ⌝ }
+    ensures { λ s. ⌜ s ≡ anyOverlap r (now (masks .entry)) (now (gpas .entry)) (now (sizes .entry)) n ⌝ }
 {
-    masks::shares(r.mask, q.mask) & addresses::meets(r.gpa, r.size, q.gpa, q.size)
+    let mut i = 0;
+    let mut found = false;
+    while i < n {
+        found = found
+            | (masks::shares(r.mask, masks[i])
+                & addresses::meets(r.gpa, r.size, gpas[i], sizes[i]));
+        i += 1;
+    }
+    found
 }
 
-fn table_holds(mask: u32, gpa: u64, r: Region) -> bool
-    ensures { λ s. ⌜ s ≡ tableHolds mask gpa r ⌝ }
+// Some page table of the first n regions shares a bit with the mask and contains the address.
+pub fn any_table_holds<'a>(
+    masks: &'a [u32; 64],
+    gpas: &'a [u64; 64],
+    sizes: &'a [u64; 64],
+    tables: &'a [bool; 64],
+    n: usize,
+    mask: u32,
+    gpa: u64,
+) -> bool
+    requires { ⌜ n ≤ 64 ⌝ }
+    ensures { λ r. ⌜ r ≡ anyTableHolds mask gpa (now (masks .entry)) (now (gpas .entry)) (now (sizes .entry)) (now (tables .entry)) n ⌝ }
 {
-    r.page_table & masks::shares(r.mask, mask) & addresses::contains(r.gpa, r.size, gpa)
+    let mut i = 0;
+    let mut found = false;
+    while i < n {
+        found = found
+            | (tables[i]
+                & masks::shares(masks[i], mask)
+                & addresses::contains(gpas[i], sizes[i], gpa));
+        i += 1;
+    }
+    found
 }
 
 // 26, 27, 28 and 29: a region whose header alone has the fault `own`, by what the regions before it tell.
@@ -214,81 +257,15 @@ impl RelocRegions {
         next
     }
 
-    // Some region is a page table that shares a bit with this one, itself a page table.
-    fn any_tables_share(self, r: Region) -> bool
-        requires { ⌜ self .count ≤ 64 ⌝ }
-        ensures { λ s. ⌜ s ≡ anyRegion (tablesShare r) self ⌝ }
-    {
-        let n = self.count;
-        let mut i = 0;
-        let mut found = false;
-        while i < n {
-            let q = Region {
-                mask: self.mask[i],
-                gpa: self.gpa[i],
-                size: self.size[i],
-                vp_index: self.vp_index[i],
-                vtl: self.vtl[i],
-                page_table: self.page_table[i],
-            };
-            found = found | tables_share(r, q);
-            i += 1;
-        }
-        found
-    }
-
-    // Some region overlaps this one under a shared bit.
-    fn any_overlap(self, r: Region) -> bool
-        requires { ⌜ self .count ≤ 64 ⌝ }
-        ensures { λ s. ⌜ s ≡ anyRegion (overlap r) self ⌝ }
-    {
-        let n = self.count;
-        let mut i = 0;
-        let mut found = false;
-        while i < n {
-            let q = Region {
-                mask: self.mask[i],
-                gpa: self.gpa[i],
-                size: self.size[i],
-                vp_index: self.vp_index[i],
-                vtl: self.vtl[i],
-                page_table: self.page_table[i],
-            };
-            found = found | overlap(r, q);
-            i += 1;
-        }
-        found
-    }
-
-    // Some page table that shares a bit with the mask contains the address.
-    pub fn any_table_holds(self, mask: u32, gpa: u64) -> bool
-        requires { ⌜ self .count ≤ 64 ⌝ }
-        ensures { λ s. ⌜ s ≡ anyRegion (tableHolds mask gpa) self ⌝ }
-    {
-        let n = self.count;
-        let mut i = 0;
-        let mut found = false;
-        while i < n {
-            let q = Region {
-                mask: self.mask[i],
-                gpa: self.gpa[i],
-                size: self.size[i],
-                vp_index: self.vp_index[i],
-                vtl: self.vtl[i],
-                page_table: self.page_table[i],
-            };
-            found = found | table_holds(mask, gpa, q);
-            i += 1;
-        }
-        found
-    }
-
     // One region more, whose header alone has the fault `own`: the row's fault, and the record with the region.
     fn region_step(self, own: Fault, r: Region) -> InitializationStep
         requires { ⌜ self .count < 64 ⌝ }
         ensures { λ s. ⌜ (s .fault ≡ regionFault own (anyRegion (tablesShare r) self) (anyRegion (overlap r) self) r) × Pushed self r (s .regions) ⌝ }
     {
-        let fault = region_fault(own, self.any_tables_share(r), self.any_overlap(r), r);
+        let n = self.count;
+        let shares = any_tables_share(r, &self.mask, &self.page_table, n);
+        let overlaps = any_overlap(r, &self.mask, &self.gpa, &self.size, n);
+        let fault = region_fault(own, shares, overlaps, r);
         let regions = self.push(r);
         InitializationStep { regions, fault }
     }

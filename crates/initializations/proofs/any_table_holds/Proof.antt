@@ -1,0 +1,87 @@
+use mathlib.Core.Bool.{Bool, false, _||_, _&&_}
+use mathlib.Core.Path.{_≡_, refl, ap₂}
+use Prim.Native.Nat.{_-_, _≤_}
+use native.Mathlib.Omega.{arith}
+use denote.Ref.{now}
+use borrow.Author.Needs.{needs}
+use lib.ListN.{getD}
+use Rattle.rows.specs.Below.{anyBelow}
+use Rattle.rows.proofs.BelowLaws.{any-more}
+use Rattle.initializations.specs.Record.{anyTableHolds}
+use Rattle.initializations.proofs.any_table_holds.Statement.{statement}
+use Rattle.initializations.proofs.any_table_holds.Tie as tie
+
+abbrev Inv-loop : tie.InvT-loop
+Inv-loop masks gpas sizes tables n mask gpa i₀ found₀ i found = (i ≤ n) × (found ≡ anyTableHolds mask gpa masks gpas sizes tables i)
+
+abbrev μ-loop : tie.MeasureT-loop
+μ-loop masks gpas sizes tables n mask gpa i₀ found₀ i found = n - i
+
+loop-holds : tie.Need-loop-holds Inv-loop μ-loop
+unfolding anyBelow
+loop-holds c = (search needs, refl)
+
+element-copy-out-found : tie.Need-element-copy-out-found Inv-loop μ-loop
+element-copy-out-found c = search needs
+
+mul-shares : tie.Need-mul-shares Inv-loop μ-loop
+mul-shares c = search needs
+
+element-copy-out-shares : tie.Need-element-copy-out-shares Inv-loop μ-loop
+element-copy-out-shares c = search needs
+
+shares-requires : tie.Need-shares-requires Inv-loop μ-loop
+shares-requires c κs = search needs
+
+mul-contains : tie.Need-mul-contains Inv-loop μ-loop
+mul-contains c = search needs
+
+element-copy-out-contains : tie.Need-element-copy-out-contains Inv-loop μ-loop
+element-copy-out-contains c = search needs
+
+mul-contains-2 : tie.Need-mul-contains-2 Inv-loop μ-loop
+mul-contains-2 c = search needs
+
+element-copy-out-contains-2 : tie.Need-element-copy-out-contains-2 Inv-loop μ-loop
+element-copy-out-contains-2 c = search needs
+
+contains-requires : tie.Need-contains-requires Inv-loop μ-loop
+contains-requires c κs = search needs
+
+add-i : tie.Need-add-i Inv-loop μ-loop
+add-i c = search needs
+
+loop-less : tie.Need-loop-less Inv-loop μ-loop
+loop-less c = search needs
+
+loop-again : tie.Need-loop-again Inv-loop μ-loop
+loop-again c =
+    let l = c .before .before .before .before .before .before .before .loop in
+    let a = c .before .before .before .before .before .before .before .before .args in
+    (search needs, rw any-more (ap₂ (λ (x y : Bool). x || y) (l .inv .1) (ap₂ (λ (x y : Bool). getD (now (a .tables)) (l .i) false && x && y) (c .before .before .before .shares .ensures) (c .contains .ensures))))
+
+returns : tie.Need-returns Inv-loop μ-loop
+returns c =
+    let e : c .before .loop .i ≡ c .before .before .args .n = omega arith in
+    rw e at (c .before .loop .inv .1)
+
+pub any-table-holds-spec : {M : Type 1} → statement M
+any-table-holds-spec =
+    tie.close
+    (tie.spec
+    Inv-loop
+    μ-loop
+    loop-holds
+    element-copy-out-found
+    mul-shares
+    element-copy-out-shares
+    shares-requires
+    mul-contains
+    element-copy-out-contains
+    mul-contains-2
+    element-copy-out-contains-2
+    contains-requires
+    add-i
+    loop-less
+    loop-again
+    returns)

@@ -1,0 +1,61 @@
+use mathlib.Core.Path.{_≡_, refl}
+use Prim.Native.Nat.{_-_, _≤_}
+use native.Mathlib.Omega.{arith}
+use borrow.Author.Needs.{needs}
+use Rattle.rows.specs.Below.{anyBelow}
+use Rattle.rows.proofs.BelowLaws.{any-more}
+use Rattle.initializations.specs.Record.{anyTablesShare}
+use Rattle.initializations.proofs.any_tables_share.Statement.{statement}
+use Rattle.initializations.proofs.any_tables_share.Tie as tie
+
+abbrev Inv-loop : tie.InvT-loop
+Inv-loop r masks tables n i₀ found₀ i found = (i ≤ n) × (found ≡ anyTablesShare r masks tables i)
+
+abbrev μ-loop : tie.MeasureT-loop
+μ-loop r masks tables n i₀ found₀ i found = n - i
+
+loop-holds : tie.Need-loop-holds Inv-loop μ-loop
+unfolding anyBelow
+loop-holds c = (search needs, refl)
+
+element-copy-out-found : tie.Need-element-copy-out-found Inv-loop μ-loop
+element-copy-out-found c = search needs
+
+mul-shares : tie.Need-mul-shares Inv-loop μ-loop
+mul-shares c = search needs
+
+element-copy-out-shares : tie.Need-element-copy-out-shares Inv-loop μ-loop
+element-copy-out-shares c = search needs
+
+shares-requires : tie.Need-shares-requires Inv-loop μ-loop
+shares-requires c κs = search needs
+
+add-i : tie.Need-add-i Inv-loop μ-loop
+add-i c = search needs
+
+loop-less : tie.Need-loop-less Inv-loop μ-loop
+loop-less c = search needs
+
+loop-again : tie.Need-loop-again Inv-loop μ-loop
+loop-again c = (search needs, rw any-more (cc))
+
+returns : tie.Need-returns Inv-loop μ-loop
+returns c =
+    let e : c .before .loop .i ≡ c .before .before .args .n = omega arith in
+    rw e at (c .before .loop .inv .1)
+
+pub any-tables-share-spec : {M : Type 1} → statement M
+any-tables-share-spec =
+    tie.close
+    (tie.spec
+    Inv-loop
+    μ-loop
+    loop-holds
+    element-copy-out-found
+    mul-shares
+    element-copy-out-shares
+    shares-requires
+    add-i
+    loop-less
+    loop-again
+    returns)
