@@ -4,6 +4,7 @@ use Prim.Native.Nat.{ℕ, zero, suc, _+_, _≤_, _<_}
 use mathlib.Core.Path.{_≡_, refl, sym, ap, _∙_}
 use mathlib.Core.Bool.{Bool, true, false, cond, _&&_, _||_, or-false}
 use mathlib.Core.List.{List, [], _∷_}
+use mathlib.Core.Option.{none}
 use lib.Bits.{bitOr}
 use lib.Dec.{eqb}
 use lib.ListN.{length, getD, set, take, replicate}
@@ -11,7 +12,11 @@ use lib.Seq.{getD-set-same, getD-set-other}
 use borrow.Author.Tests.{eqb-true, eqb-false}
 use Rattle.rows.specs.Below.{anyBelow, firstBelow}
 use Rattle.rows.specs.Rows.{Rows, any, before}
-use Rattle.rows.proofs.BelowLaws.{any-more, any-same-tests, none-any, first-same-tests}
+use Rattle.rows.proofs.BelowLaws.{any-more, any-same-tests, none-any, first-none, first-same-tests}
+use Rattle.rows.proofs.Bools.{or-false-parts}
+use Rattle.igvm_defs.specs.Kinds.{kindOf, directiveList}
+use Rattle.igvm_defs.proofs.KindLaws.{directive-kind}
+use Rattle.igvm_defs.proofs.Runs.{each, _⨾_}
 use Rattle.areas.specs.Areas.{named, badRow, firstOr, item, firstBad}
 use Rattle.areas.specs.Areas as areas
 use Rattle.areas.proofs.AreaLaws.{first-test, first-bad-same, first-bad-take}
@@ -19,10 +24,11 @@ use Rattle.masks.specs.Masks.{shares}
 use Rattle.masks.proofs.MaskLaws.{shares-zero-left, shares-or}
 use Rattle.directive_header.specs.declared.IgvmDirectiveHeader.{IgvmDirectiveHeader}
 use Rattle.directive_header.specs.declared.IgvmDirectiveHeader.the-variants.{PageData, ParameterArea, VpCount, EnvironmentInfo, Srat, Madt, Slit, Pptt, MmioRanges, MemoryMap, CommandLine, DeviceTree, RequiredMemory, SnpVpContext, X64NativeVpContext, X64VbsVpContext, AArch64VbsVpContext, AArch64CcaVpContext, ParameterInsert, ErrorRange, SnpIdBlock, VbsMeasurement}
-use Rattle.directive_header.specs.Fields.{kindNumber, areaOf}
+use Rattle.directive_header.specs.Directives.{directiveOf}
+use Rattle.directive_header.specs.Fields.{kindNumber, areaOf, isParameter, areaNamed}
 use Rattle.rules.specs.declared.Region.{Region}
 use Rattle.rules.specs.Directives.{testArea, allocates, inserts, isAllocated, badArea, isContext, noContext}
-use Rattle.directives.specs.Record.{HoldsContexts, lacksContext, howOf, areaNumber, firstBadArea}
+use Rattle.directives.specs.Record.{HoldsContexts, lacksContext, howOf, howNamed, namesArea, areaNumber, firstBadArea}
 
 -- ---- contexts
 
@@ -94,6 +100,28 @@ says-how (ParameterInsert a) = record { allocated = λ x. refl; inserted = λ x.
 says-how (ErrorRange a b c) = record { allocated = λ x. refl; inserted = λ x. refl; tested = λ p q. refl }
 says-how (SnpIdBlock a b) = record { allocated = λ x. refl; inserted = λ x. refl; tested = λ p q. refl }
 says-how (VbsMeasurement a b) = record { allocated = λ x. refl; inserted = λ x. refl; tested = λ p q. refl }
+
+-- a header names an area as its row does
+pub how-directive : (kind : ℕ) → kindOf kind .list ≡ directiveList → (b : List ℕ) → howOf (directiveOf kind b) ≡ howNamed kind
+unfolding directiveOf howNamed
+how-directive kind l =
+    let (p, q) = directive-kind kind l in
+    each (λ k. (b : List ℕ) → howOf (directiveOf k b) ≡ howNamed k) 32 22 (
+    (λ b. refl) ⨾ (λ b. refl) ⨾ (λ b. refl) ⨾ (λ b. refl) ⨾ (λ b. refl) ⨾ (λ b. refl) ⨾ (λ b. refl) ⨾ (λ b. refl) ⨾ (λ b. refl) ⨾ (λ b. refl) ⨾ (λ b. refl) ⨾
+    (λ b. refl) ⨾ (λ b. refl) ⨾ (λ b. refl) ⨾ (λ b. refl) ⨾ (λ b. refl) ⨾ (λ b. refl) ⨾ (λ b. refl) ⨾ (λ b. refl) ⨾ (λ b. refl) ⨾ (λ b. refl) ⨾ (λ b. refl) ⨾ tt) kind p q
+
+-- a row of any other kind names none
+pub names-no-area : (kind : ℕ) → namesArea kind ≡ false → (b : List ℕ) → areaNamed kind b ≡ none
+unfolding namesArea areaNamed
+names-no-area kind n b =
+    let (m, f) = or-false-parts (eqb kind 33 || isParameter kind) (eqb kind 50) n in
+    let (e, p) = or-false-parts (eqb kind 33) (isParameter kind) m in
+    rw (e, p, f)
+
+-- where no row names an area, none is bad
+pub no-bad-area : (xs : Rows IgvmDirectiveHeader) → ((i : ℕ) → i < xs .count → areaOf (xs .row i) ≡ none) → firstBadArea xs ≡ xs .count
+unfolding firstBadArea badArea
+no-bad-area xs h = ap (firstOr (xs .count)) (first-none (xs .count) (λ i. badArea (before i xs) (xs .row i)) .1 (λ i l. rw (h i l)))
 
 -- the area that row j names, and how
 abbrev pub areaAt : Rows IgvmDirectiveHeader → ℕ → ℕ

@@ -2,7 +2,7 @@
 use Prim.Native.Nat.{ℕ, _+_}
 use mathlib.Core.Path.{_≡_}
 use mathlib.Core.List.{List}
-use mathlib.Core.Bool.{Bool, not, _&&_}
+use mathlib.Core.Bool.{Bool, cond, not, _&&_, _||_}
 use mathlib.Core.Option.{Option, none, some}
 use lib.Dec.{eqb}
 use lib.ListN.{getD}
@@ -14,6 +14,7 @@ use Rattle.igvm_defs.specs.declared.Fault.{Fault}
 use Rattle.initialization_header.specs.declared.IgvmInitializationHeader.{IgvmInitializationHeader}
 use Rattle.directive_header.specs.declared.IgvmDirectiveHeader.{IgvmDirectiveHeader}
 use Rattle.directive_header.specs.declared.IgvmDirectiveHeader.the-variants.{PageData, ParameterArea, VpCount, EnvironmentInfo, Srat, Madt, Slit, Pptt, MmioRanges, MemoryMap, CommandLine, DeviceTree, RequiredMemory, SnpVpContext, X64NativeVpContext, X64VbsVpContext, AArch64VbsVpContext, AArch64CcaVpContext, ParameterInsert, ErrorRange, SnpIdBlock, VbsMeasurement}
+use Rattle.directive_header.specs.Fields.{isParameter}
 use Rattle.masks.specs.Masks.{shares}
 use Rattle.rules.specs.declared.Region.{Region}
 use Rattle.rules.specs.Directives.{badArea, directiveFault, isContext}
@@ -57,7 +58,19 @@ howOf (ErrorRange gpa mask bytes) = 3
 howOf (SnpIdBlock mask opaque) = 3
 howOf (VbsMeasurement mask opaque) = 3
 
--- 0 where the header names no area
+-- the same of a row, from its kind
+unfoldable pub howNamed : ℕ → ℕ
+howNamed kind =
+    cond (eqb kind 33) 0
+    (cond (isParameter kind) 1
+    (cond (eqb kind 50) 2
+    3))
+
+-- whether a row of this kind names an area
+unfoldable pub namesArea : ℕ → Bool
+namesArea kind = eqb kind 33 || isParameter kind || eqb kind 50
+
+-- 0 where no area is named
 abbrev pub areaNumber : Option ℕ → ℕ
 areaNumber none = 0
 areaNumber (some area) = area

@@ -2,18 +2,19 @@
 ghost use mathlib.Core.Path.{_≡_};
 ghost use mathlib.Core.Bool.{not, _&&_, _||_};
 ghost use lib.Dec.{eqb, ltb};
-ghost use lib.ListN.{getD};
-ghost use Prim.Native.Nat.{ℕ, _+_};
+ghost use lib.ListN.{getD, length};
+ghost use Prim.Native.Nat.{ℕ, _+_, _≤_};
 ghost use Rattle.rows.specs.Rows.{Rows, before};
 ghost use Rattle.initialization_header.specs.declared.IgvmInitializationHeader.{IgvmInitializationHeader};
 ghost use Rattle.directive_header.specs.declared.IgvmDirectiveHeader.{IgvmDirectiveHeader};
 ghost use Rattle.igvm_defs.specs.Refusals.{fault, noFault, refuse};
 ghost use Rattle.igvm_defs.specs.Vtls.{vtlNumber};
+ghost use Rattle.igvm_defs.specs.Kinds.{kindOf};
 ghost use Rattle.masks.specs.Masks.{shares};
 ghost use Rattle.addresses.specs.Addresses.{onPage};
-ghost use Rattle.directive_header.specs.Fields.{kindNumber, areaOf};
+ghost use Rattle.directive_header.specs.Fields.{kindNumber, isParameter, areaNamed};
 ghost use Rattle.rules.specs.Directives.{validateDirective, wrongArch, badArea, insideTable};
-ghost use Rattle.directives.specs.Record.{HoldsContexts, lacksContext, howOf, areaNumber, DirectiveStepped};
+ghost use Rattle.directives.specs.Record.{HoldsContexts, lacksContext, namesArea, howNamed, areaNumber, DirectiveStepped};
 use directive_header::IgvmDirectiveHeader;
 use igvm_defs::Arch;
 use igvm_defs::Fault;
@@ -169,43 +170,42 @@ pub fn lacks_context(contexts: [u32; 3], r: Region) -> bool
     !((r.vp_index == 0) & masks::shares(mask_of_vtl(contexts, r.vtl), r.mask))
 }
 
-// ---- areas: how a header names an area (0 allocates, 1 uses, 2 inserts, 3 names none), and which
+// ---- areas: how a row names an area (0 allocates, 1 uses, 2 inserts, 3 names none), and which
+
+fn is_parameter(kind: u32) -> bool
+    ensures { λ r. ⌜ r ≡ isParameter kind ⌝ }
+{
+    (34 <= kind) & (kind <= 43)
+}
+
+pub fn names_area(kind: u32) -> bool
+    ensures { λ r. ⌜ r ≡ namesArea kind ⌝ }
+{
+    (kind == 33) | is_parameter(kind) | (kind == 50)
+}
 
 pub struct AreaName {
     pub how: u8,
     pub area: u32,
 }
 
-pub fn naming(h: IgvmDirectiveHeader) -> AreaName
-    ensures { λ r. ⌜ (r .how ≡ howOf h) × (r .area ≡ areaNumber (areaOf h)) ⌝ }
+pub fn naming(kind: u32, body: &[u8]) -> AreaName
+    requires { ⌜ kindOf kind .least ≤ length (now body) ⌝ }
+    ensures { λ r. ⌜ (r .how ≡ howNamed kind) × (r .area ≡ areaNumber (areaNamed kind (now (body .entry)))) ⌝ }
 {
-    match h {
-        IgvmDirectiveHeader::ParameterArea {
-            parameter_area_index,
-            ..
-        } => AreaName {
-            how: 0,
-            area: parameter_area_index,
-        },
-        IgvmDirectiveHeader::VpCount(p)
-        | IgvmDirectiveHeader::EnvironmentInfo(p)
-        | IgvmDirectiveHeader::Srat(p)
-        | IgvmDirectiveHeader::Madt(p)
-        | IgvmDirectiveHeader::Slit(p)
-        | IgvmDirectiveHeader::Pptt(p)
-        | IgvmDirectiveHeader::MmioRanges(p)
-        | IgvmDirectiveHeader::MemoryMap(p)
-        | IgvmDirectiveHeader::CommandLine(p)
-        | IgvmDirectiveHeader::DeviceTree(p) => AreaName {
-            how: 1,
-            area: p.parameter_area_index,
-        },
-        IgvmDirectiveHeader::ParameterInsert(p) => AreaName {
-            how: 2,
-            area: p.parameter_area_index,
-        },
-        _ => AreaName { how: 3, area: 0 },
+    if kind == 33 {
+        let area = le::u32_at(body, 8);
+        return AreaName { how: 0, area };
     }
+    if is_parameter(kind) {
+        let area = le::u32_at(body, 0);
+        return AreaName { how: 1, area };
+    }
+    if kind == 50 {
+        let area = le::u32_at(body, 12);
+        return AreaName { how: 2, area };
+    }
+    AreaName { how: 3, area: 0 }
 }
 
 // ---- one row more
