@@ -21,22 +21,24 @@ use Rattle.igvm_defs.proofs.RefusalLaws.{row-refusal, orElse-first, orElse-late
 use Rattle.directive_header.specs.declared.IgvmDirectiveHeader.{IgvmDirectiveHeader}
 use Rattle.directive_header.specs.Fields.{areaOf}
 use Rattle.directive_header.specs.Directives.{directiveOf}
+use Rattle.directive_header.proofs.DirectiveLaws.{area-directive}
 use Rattle.sheet.specs.declared.Cursor.{Cursor}
 use Rattle.sheet.specs.Head.{limits, headOf, revisionOf}
 use Rattle.sheet.specs.Read.{Readable}
 use Rattle.sheet.specs.Table.{rowKind, bodyOf}
 use Rattle.sheet.specs.Walk.{cursorAt, AtRow}
 use Rattle.sheet.proofs.Readable.{at-row, directive-row, readable-bounds}
-use Rattle.rules.specs.Regions.{regionPasses}
+use Rattle.initialization_header.specs.declared.IgvmInitializationHeader.{IgvmInitializationHeader}
+use Rattle.rules.specs.Regions.{regionPasses, tableHolds}
 use Rattle.rules.specs.Directives.{badArea, noContext}
 use Rattle.rules.specs.Verdict.{Headers, directiveFaults, noMatchingVpContext, directivesRefusal}
 use Rattle.rules.proofs.Acceptance.{directive-says}
 use Rattle.headers.specs.Headers.{sheetHeaders}
 use Rattle.initializations.specs.declared.RelocRegions.{RelocRegions}
 use Rattle.initializations.specs.Record.{entry, anyRegion, HoldsRegions}
-use Rattle.directives.specs.Record.{HoldsContexts, lacksContext, DirectiveStepped, howOf, areaNumber, firstBadArea}
-use Rattle.directives.proofs.DirectiveRecordLaws.{lacks-says, bad-area-test}
-use Rattle.file.specs.Passes.{AreasFilled}
+use Rattle.directives.specs.Record.{HoldsContexts, lacksContext, DirectiveStepped, howOf, namesArea, areaNumber, firstBadArea}
+use Rattle.directives.proofs.DirectiveRecordLaws.{lacks-says, names-no-area, no-bad-area, bad-area-test}
+use Rattle.file.specs.Passes.{HoldsTables, AreasFilled}
 
 -- ---- the directive rows of a readable sheet
 
@@ -76,6 +78,18 @@ pub record SheetCounts (s : List ℕ) : Type 0 where
 pub sheet-counts : (s : List ℕ) → SheetCounts s
 unfolding sheetHeaders
 sheet-counts s = record { arch = refl; platforms = refl; initializations = refl; directives = refl }
+
+-- where no row names an area, none is bad
+pub no-area-rows : (s : List ℕ) → Readable limits s → anyBelow (headOf s .directives) (λ i. namesArea (rowKind s (firstDirective s + i))) ≡ false
+    → firstBadArea (sheetHeaders s .directives) ≡ headOf s .directives
+no-area-rows s ok h =
+    let e = sheet-counts s .directives in
+    no-bad-area (sheetHeaders s .directives) (λ i l.
+    let k = firstDirective s + i in
+    let m = rw e at l in
+    ap areaOf (sym (directive-header s i)) ∙ area-directive (rowKind s k) (at-directive s ok i m .list) (bodyOf s k)
+    ∙ names-no-area (rowKind s k) (none-any (headOf s .directives) (λ i. namesArea (rowKind s (firstDirective s + i))) .0 h i m) (bodyOf s k))
+    ∙ e
 
 -- ---- the filled arrays
 
@@ -141,6 +155,11 @@ module _ (f : Headers) where
       (sym (orElse-later noRefusal (inRow 0 (noMatchingVpContext f)) no-refusal))
 
 -- ---- the pass
+
+-- the record's arrays have the page tables that the record has
+pub holds-tables : (r : RelocRegions) (xs : Rows IgvmInitializationHeader) → HoldsRegions r xs → HoldsTables (r .mask) (r .gpa) (r .size) (r .«page_table») (r .count) xs
+unfolding tableHolds
+holds-tables r xs h mask gpa = h .same (tableHolds mask gpa)
 
 -- The pass stands before row i of n directive rows, with the cursor c at it. k rows stand before the directive rows, and row b is the first of them
 -- whose area is bad; the record holds the regions, the masks the contexts of the rows passed, and no row passed has a fault.

@@ -1,19 +1,21 @@
 // The verdict: the passes over platform, initialization and directive rows, and IgvmFile::new, from any byte string.
 ghost use mathlib.Core.Path.{_≡_};
-ghost use Prim.Native.Nat.{_≤_};
+ghost use Prim.Native.Nat.{_+_, _*_, _≤_};
 ghost use lib.ListN.{length};
 ghost use Rattle.sheet.specs.Head.{limits, headOf};
 ghost use Rattle.sheet.specs.Read.{Readable};
+ghost use Rattle.sheet.specs.Table.{rowKind};
 ghost use Rattle.headers.specs.Headers.{sheetHeaders};
 ghost use Rattle.platforms.specs.Record.{HoldsPlatforms};
 ghost use Rattle.initialization_header.specs.declared.IgvmInitializationHeader.{IgvmInitializationHeader};
+ghost use Rattle.rows.specs.Below.{anyBelow};
 ghost use Rattle.rows.specs.Rows.{Rows};
 ghost use Rattle.rules.specs.Directives.{insideTable};
 ghost use Rattle.initializations.specs.Record.{anyRegion, HoldsRegions};
-ghost use Rattle.directives.specs.Record.{lacksContext, firstBadArea};
+ghost use Rattle.directives.specs.Record.{lacksContext, namesArea, firstBadArea};
 ghost use Rattle.rules.specs.Verdict.{directivesRefusal};
 ghost use Rattle.answers.specs.Verdict.{verdictOf};
-ghost use Rattle.file.specs.Passes.{PlatformsPassed, InitializationsPassed, AreasFilled};
+ghost use Rattle.file.specs.Passes.{PlatformsPassed, InitializationsPassed, HoldsTables, AreasFilled};
 use answers::Verdict;
 use directive_header::IgvmDirectiveHeader;
 use igvm_defs::Fault;
@@ -109,7 +111,7 @@ fn fill_areas(s: &[u8], head: SheetHead, area: &mut [u32; 1024], how: &mut [u8; 
     let mut c = sheet::cursor_at(s, first);
     let mut i = 0;
     while i < n {
-        let name = directives::naming(headers::directive_at(s, c));
+        let name = directives::naming(c.kind(s), c.body(s));
         area[i] = name.area;
         how[i] = name.how;
         c = c.next(s);
@@ -117,12 +119,31 @@ fn fill_areas(s: &[u8], head: SheetHead, area: &mut [u32; 1024], how: &mut [u8; 
     }
 }
 
+// Whether some of n rows from `first` on names an area.
+fn any_area(s: &[u8], first: usize, n: usize) -> bool
+    requires { ⌜ (16 + 8 * (first + n) ≤ length (now s)) × (first + n ≤ 196605) ⌝ }
+    ensures { λ r. ⌜ r ≡ anyBelow n (λ i. namesArea (rowKind (now (s .entry)) (first + i))) ⌝ }
+{
+    let mut i = 0;
+    while i < n {
+        if directives::names_area(sheet::kind_at(s, first + i)) {
+            return true;
+        }
+        i += 1;
+    }
+    false
+}
+
 // The first directive row, from 0, whose area is bad by the rows before it, or the number of rows.
 fn first_bad_area(s: &[u8], head: SheetHead) -> usize
     requires { ⌜ Readable limits (now s) × (head ≡ headOf (now s)) ⌝ }
     ensures { λ r. ⌜ r ≡ firstBadArea (sheetHeaders (now (s .entry)) .directives) ⌝ }
 {
+    let first = (head.platforms as usize) + (head.initializations as usize);
     let n = head.directives as usize;
+    if !any_area(s, first, n) {
+        return n;
+    }
     let mut area: [u32; 1024] = [0; 1024];
     let mut how: [u8; 1024] = [0; 1024];
     fill_areas(s, head, &mut area, &mut how);
@@ -152,13 +173,25 @@ fn no_matching_vp_context(regions: RelocRegions, contexts: [u32; 3]) -> bool
     found
 }
 
-// 33: an insert at an address in a page table, under a shared bit.
-fn inside_table(regions: RelocRegions, h: IgvmDirectiveHeader) -> bool
-    requires { ⌜ regions .count ≤ 64 ⌝ }
-    ensures { λ r. ⌜ ((xs : Rows IgvmInitializationHeader) → HoldsRegions regions xs → r ≡ insideTable xs h) ⌝ }
+// 33: an insert at an address in a page table, under a shared bit. The record's arrays have n regions.
+fn inside_table<'a>(
+    masks: &'a [u32; 64],
+    gpas: &'a [u64; 64],
+    sizes: &'a [u64; 64],
+    tables: &'a [bool; 64],
+    n: usize,
+    h: IgvmDirectiveHeader,
+) -> bool
+    requires { ⌜ n ≤ 64 ⌝ }
+    ensures { λ r. ⌜ ((xs : Rows IgvmInitializationHeader) → HoldsTables (now (masks .entry)) (now (gpas .entry)) (now (sizes .entry)) (now (tables .entry)) n xs → r ≡ insideTable xs h) ⌝ }
 {
     match h {
-        IgvmDirectiveHeader::ParameterInsert(p) => regions.any_table_holds(
+        IgvmDirectiveHeader::ParameterInsert(p) => initializations::any_table_holds(
+            masks,
+            gpas,
+            sizes,
+            tables,
+            n,
             p.compatibility_mask,
             p.gpa,
         ),
@@ -174,13 +207,21 @@ fn validate_directive_headers(s: &[u8], head: SheetHead, regions: RelocRegions) 
     let first = (head.platforms as usize) + (head.initializations as usize);
     let n = head.directives as usize;
     let arch = head.revision().arch();
+    let held = regions.count;
     let bad = first_bad_area(s, head);
     let mut c = sheet::cursor_at(s, first);
     let mut contexts: [u32; 3] = [0; 3];
     let mut i = 0;
     while i < n {
         let h = headers::directive_at(s, c);
-        let inside = inside_table(regions, h);
+        let inside = inside_table(
+            &regions.mask,
+            &regions.gpa,
+            &regions.size,
+            &regions.page_table,
+            held,
+            h,
+        );
         let step = directives::step(contexts, arch, i == bad, inside, h);
         let fault = step.fault;
         let next = step.contexts;

@@ -1,6 +1,6 @@
 use Prim.Native.Nat.{_-_, _+_, _≤_}
 use native.Mathlib.Omega.{arith}
-use mathlib.Core.Path.{_≡_, ap, _∙_}
+use mathlib.Core.Path.{_≡_, sym, ap, _∙_}
 use borrow.Author.Needs.{needs}
 use denote.Ref.{now}
 use Rattle.directive_header.specs.declared.IgvmDirectiveHeader.{IgvmDirectiveHeader}
@@ -8,9 +8,12 @@ use Rattle.directive_header.specs.Fields.{areaOf}
 use Rattle.sheet.specs.declared.SheetHead.{SheetHead}
 use Rattle.sheet.specs.Head.{headOf}
 use Rattle.sheet.specs.Walk.{cursorAt}
-use Rattle.sheet.proofs.Readable.{readable-bounds}
+use Rattle.sheet.specs.Table.{rowKind, bodyOf}
+use Rattle.sheet.proofs.Readable.{readable-bounds, body-least}
 use Rattle.headers.specs.Headers.{sheetHeaders}
+use Rattle.directive_header.proofs.DirectiveLaws.{area-directive}
 use Rattle.directives.specs.Record.{howOf, areaNumber}
+use Rattle.directives.proofs.DirectiveRecordLaws.{how-directive}
 use Rattle.file.specs.Passes.{AreasFilled}
 use Rattle.file.proofs.DirectivePass.{firstDirective, AtDirective, at-directive, cursor-first, cursor-more, directive-header, filled-none, filled-more}
 use Rattle.file.proofs.fill_areas.Statement.{statement}
@@ -57,14 +60,16 @@ loop-holds c =
       filled-none (sheetHeaders s .directives) _ _ (st .pre .2) (st .pre .3),
     )
 
-directive-at-requires : tie.Need-directive-at-requires Inv-loop μ-loop
-directive-at-requires c κs =
-    let k = known c in
-    let e = c .before .loop .inv .3 in
-    (rw e (k .row), rw e (k .list))
+kind-requires : tie.Need-kind-requires Inv-loop μ-loop
+kind-requires c κs = rw (c .before .loop .inv .3) (known c .row)
+
+body-requires : tie.Need-body-requires Inv-loop μ-loop
+body-requires c κs = rw (c .before .before .loop .inv .3) (known (c .before) .row)
 
 naming-requires : tie.Need-naming-requires Inv-loop μ-loop
-naming-requires c κs = search needs
+naming-requires c κs =
+    let e = c .before .before .before .loop .inv .3 in
+    rw (c .before .kind .ensures, c .body .ensures, e) (body-least _ _ (known (c .before .before) .row))
 
 mul-area : tie.Need-mul-area Inv-loop μ-loop
 mul-area c = search needs
@@ -76,7 +81,7 @@ element-write-how : tie.Need-element-write-how Inv-loop μ-loop
 element-write-how c = search needs
 
 next-requires : tie.Need-next-requires Inv-loop μ-loop
-next-requires c κs = rw (c .before .before .before .loop .inv .3) (known (c .before .before) .row)
+next-requires c κs = rw (c .before .before .before .before .loop .inv .3) (known (c .before .before .before) .row)
 
 add-i : tie.Need-add-i Inv-loop μ-loop
 add-i c = search needs
@@ -86,19 +91,21 @@ loop-less c = search needs
 
 loop-again : tie.Need-loop-again Inv-loop μ-loop
 loop-again c =
-    let l = c .before .before .before .before .loop in
-    let s = now (c .before .before .before .before .before .before .before .before .before .before .args .s) in
+    let l = c .before .before .before .before .before .loop in
+    let s = now (c .before .before .before .before .before .before .before .before .before .before .before .args .s) in
     let xs = sheetHeaders s .directives in
+    let k = firstDirective s + l .i in
     let e = l .inv .3 in
-    let h : c .before .before .directive-at .result ≡ xs .row (l .i) = c .before .before .directive-at .ensures ∙ rw e (directive-header s (l .i)) in
-    let name = c .before .naming .ensures in (
+    let list = known (c .before .before .before .before) .list in
+    let h = directive-header s (l .i) in
+    let name = rw (c .before .before .before .kind .ensures, c .before .before .body .ensures, e) at (c .before .naming .ensures) in (
       omega arith,
       l .inv .1,
       l .inv .2,
       rw (c .next .ensures, e) (cursor-more s (l .i)),
       filled-more xs (l .i) (l .area) (l .how) _ _ (omega arith) (l .inv .4)
-          (name .1 ∙ ap (λ (h : IgvmDirectiveHeader). areaNumber (areaOf h)) h)
-          (name .0 ∙ ap howOf h),
+          (name .1 ∙ ap areaNumber (sym (area-directive (rowKind s k) list (bodyOf s k))) ∙ ap (λ (h : IgvmDirectiveHeader). areaNumber (areaOf h)) h)
+          (name .0 ∙ sym (how-directive (rowKind s k) list (bodyOf s k)) ∙ ap howOf h),
     )
 
 returns : tie.Need-returns Inv-loop μ-loop
@@ -120,7 +127,8 @@ fill-areas-spec =
     add-first
     cursor-at-requires
     loop-holds
-    directive-at-requires
+    kind-requires
+    body-requires
     naming-requires
     mul-area
     element-write-area

@@ -3,7 +3,6 @@ use mathlib.Core.Path.{sym, _∙_}
 use mathlib.Core.List.{List, [], _∷_}
 use types.Run.{miss}
 use borrow.Author.Needs.{needs}
-use Rattle.rules.specs.Regions.{tableHolds}
 use Rattle.rules.proofs.Acceptance.{inside-table}
 use Rattle.file.proofs.inside_table.Statement.{statement}
 use Rattle.file.proofs.inside_table.Tie as tie
@@ -19,7 +18,7 @@ any-table-holds-requires : tie.Need-any-table-holds-requires
 any-table-holds-requires c κs = search needs
 
 returns : tie.Need-returns
-returns c = λ xs held. rw (c .before .before .h .given .1) (c .any-table-holds .ensures ∙ held .same (tableHolds _ _))
+returns c = λ xs held. rw (c .before .before .h .given .1) (c .any-table-holds .ensures ∙ held _ _)
 
 returns-2 : tie.Need-returns-2
 returns-2 c = λ xs held. sym (inside-table xs (c .before .args .h) .1 (λ p e j r l o. absurd (miss others 18 tt (rw e at (c .match .keys2)))))

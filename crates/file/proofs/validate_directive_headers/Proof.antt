@@ -8,30 +8,30 @@ use Rattle.sheet.specs.declared.SheetHead.{SheetHead}
 use Rattle.headers.specs.Headers.{sheetHeaders}
 use Rattle.directives.specs.Record.{DirectiveStepped}
 use Rattle.directives.proofs.DirectiveRecordLaws.{holds-no-contexts}
-use Rattle.file.proofs.DirectivePass.{Reached, cursor-first, sheet-counts, reached-bounds, regions-room, reached-row, reached-list, reached-header, reached-bad, reached-next, reached-stop, reached-end}
+use Rattle.file.proofs.DirectivePass.{Reached, cursor-first, sheet-counts, reached-bounds, regions-room, holds-tables, reached-row, reached-list, reached-header, reached-bad, reached-next, reached-stop, reached-end}
 use Rattle.file.proofs.validate_directive_headers.Statement.{statement}
 use Rattle.file.proofs.validate_directive_headers.Tie as tie
 
 abbrev Inv-loop : tie.InvT-loop
-Inv-loop s regions first n arch bad c₀ contexts₀ i₀ c contexts i = Reached s regions first n arch bad c contexts i
+Inv-loop s regions first n arch held bad c₀ contexts₀ i₀ c contexts i = Reached s regions first n arch bad c contexts i
 
 abbrev μ-loop : tie.MeasureT-loop
-μ-loop s regions first n arch bad c₀ contexts₀ i₀ c contexts i = n - i
+μ-loop s regions first n arch held bad c₀ contexts₀ i₀ c contexts i = n - i
 
 -- a turn's step tells the row's fault, and the masks with the row's context
 stepped : (c : tie.After-step Inv-loop μ-loop)
-    → let l = c .before .before .before .before in
+    → let l = c .before .before .before .before .before .before .before .before .before in
     let f = sheetHeaders (now (l .before .before .before .before .before .before .before .before .before .args .s)) in
     DirectiveStepped (f .arch) (f .initializations) (f .directives) (l .loop .i) (c .step .result .fault) (c .step .result .contexts)
 stepped c =
-    let l = c .before .before .before .before in
+    let l = c .before .before .before .before .before .before .before .before .before in
     let f = sheetHeaders (now (l .before .before .before .before .before .before .before .before .before .args .s)) in
     let r = l .loop .inv in
-    let g = c .before .before .directive-at in
+    let g = c .before .before .before .before .before .before .before .directive-at in
     let h : g .result ≡ f .directives .row (l .loop .i) = rw (g .ensures) (reached-header r) in
-    let bad = rw (← h) at (reached-bad r (c .before .before .before .loop-test .taken)) in
+    let bad = rw (← h) at (reached-bad r (c .before .before .before .before .before .before .before .before .loop-test .taken)) in
     rw (← r .arch)
-    (c .step .ensures (f .initializations) (f .directives) (l .loop .i) h bad (c .before .inside-table .ensures (f .initializations) (r .regions)) (r .contexts))
+    (c .step .ensures (f .initializations) (f .directives) (l .loop .i) h bad (c .before .inside-table .ensures (f .initializations) (holds-tables _ (f .initializations) (r .regions))) (r .contexts))
 
 cast-first : tie.Need-cast-first Inv-loop μ-loop
 cast-first c = search needs
@@ -86,7 +86,7 @@ directive-at-requires c κs =
     (reached-row r (c .loop-test .taken), reached-list r (c .loop-test .taken))
 
 inside-table-requires : tie.Need-inside-table-requires Inv-loop μ-loop
-inside-table-requires c κs = regions-room (c .before .before .loop .inv)
+inside-table-requires c κs = regions-room (c .before .before .before .before .before .before .before .loop .inv)
 
 step-requires : tie.Need-step-requires Inv-loop μ-loop
 step-requires c κs = search needs
@@ -96,14 +96,14 @@ is-fault-requires c κs = search needs
 
 add-in-row : tie.Need-add-in-row Inv-loop μ-loop
 add-in-row c =
-    let t = c .before .before .before .before .before .before .before in
+    let t = c .before .before .before .before .before .before .before .before .before .before .before .before in
     let b = reached-bounds (t .before .loop .inv) in
     let l = t .loop-test .taken in
     omega arith
 
 add-in-row-2 : tie.Need-add-in-row-2 Inv-loop μ-loop
 add-in-row-2 c =
-    let t = c .before .before .before .before .before .before .before in
+    let t = c .before .before .before .before .before .before .before .before .before .before .before .before in
     let b = reached-bounds (t .before .loop .inv) in
     let l = t .loop-test .taken in
     omega arith
@@ -114,18 +114,18 @@ in-row-requires c κs = search needs
 returns : tie.Need-returns Inv-loop μ-loop
 returns c =
     let d = c .before .before .before .before .before in
-    let t = d .before .before .before in
+    let t = d .before .before .before .before .before .before .before .before in
     let e = sym (c .before .before .is-fault .ensures) ∙ c .before .if1 .taken in
     c .in-row .ensures ∙ reached-stop (t .before .loop .inv) (t .loop-test .taken) (stepped d) e
 
 next-requires : tie.Need-next-requires Inv-loop μ-loop
 next-requires c κs =
-    let t = c .before .before .before .before .before .before .before in
+    let t = c .before .before .before .before .before .before .before .before .before .before .before .before in
     reached-row (t .before .loop .inv) (t .loop-test .taken)
 
 add-i : tie.Need-add-i Inv-loop μ-loop
 add-i c =
-    let t = c .before .before .before .before .before .before .before .before in
+    let t = c .before .before .before .before .before .before .before .before .before .before .before .before .before in
     let b = reached-bounds (t .before .loop .inv) in
     let l = t .loop-test .taken in
     omega arith
@@ -136,7 +136,7 @@ loop-less c = search needs
 loop-again : tie.Need-loop-again Inv-loop μ-loop
 loop-again c =
     let d = c .before .before .before .before .before in
-    let t = d .before .before .before in
+    let t = d .before .before .before .before .before .before .before .before in
     let e = sym (c .before .before .is-fault .ensures) ∙ c .before .if1 .left in
     rw (c .next2 .ensures) (reached-next (t .before .loop .inv) (t .loop-test .taken) (stepped d) e)
 
