@@ -1,8 +1,9 @@
 // What every other crate speaks of: refusals, the tables of kinds and of platform types, architectures, revisions and VTLs.
 ghost use mathlib.Core.Path.{_≡_};
-ghost use Prim.Native.Nat.{_+_, _<_};
+ghost use Prim.Native.Nat.{ℕ, _+_, _<_};
+ghost use lib.ListN.{getD};
 ghost use Rattle.igvm_defs.specs.Refusals.{fault, refuse, orFault, isFault, isRefusal, inRow};
-ghost use Rattle.igvm_defs.specs.Kinds.{kindOf, lengthOk};
+ghost use Rattle.igvm_defs.specs.Kinds.{kindOf, noKind, lengthOk};
 ghost use Rattle.igvm_defs.specs.Platforms.{platformTypeOf, isPlatformType};
 ghost use Rattle.igvm_defs.specs.Revision.{archOf, pageSizeOf, isX64, isAArch64};
 ghost use Rattle.igvm_defs.specs.Vtls.{vtlOf, vtlNumber};
@@ -245,15 +246,21 @@ const KINDS: [Kind; 54] = [
     }, // 53 VbsMeasurement
 ];
 
-// What the table says of a kind; past its end, of none.
-pub fn kind_of(k: u32) -> Kind
-    ensures { λ r. ⌜ r ≡ kindOf k ⌝ }
+// The table of kinds. A constant array is built anew wherever it is indexed, so a loop over rows takes the table once, before it.
+pub fn kinds() -> [Kind; 54]
+    ensures { λ r. ⌜ ((k : ℕ) → k < 54 → getD r k noKind ≡ kindOf k) ⌝ }
+{
+    KINDS
+}
+
+// The place of a kind in the table; past its end, that of a kind of no list.
+pub fn kind_index(k: u32) -> usize
+    ensures { λ r. ⌜ (r < 54) × (kindOf r ≡ kindOf k) ⌝ }
 {
     if k < 54 {
-        let i = k as usize;
-        return KINDS[i];
+        return k as usize;
     }
-    NONE
+    0
 }
 
 impl Kind {

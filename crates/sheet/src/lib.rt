@@ -10,6 +10,7 @@ ghost use Rattle.sheet.specs.Walk.{cursorAt, AtRow};
 use igvm_defs::Arch;
 use igvm_defs::Fault;
 use igvm_defs::IgvmRevision;
+use igvm_defs::Kind;
 use igvm_defs::Refusal;
 
 // The head's numbers as they stand in the sheet.
@@ -206,12 +207,12 @@ fn list_at(h: SheetHead, k: usize) -> u8
     let p = h.platforms as usize;
     let i = h.initializations as usize;
     if k < p {
-        return igvm_defs::Kind::PLATFORM;
+        return Kind::PLATFORM;
     }
     if k < p + i {
-        return igvm_defs::Kind::INITIALIZATION;
+        return Kind::INITIALIZATION;
     }
-    igvm_defs::Kind::DIRECTIVE
+    Kind::DIRECTIVE
 }
 
 // Whether the codes of a body are in range.
@@ -229,14 +230,14 @@ fn codes_ok(kind: u32, body: &[u8]) -> bool
     }
 }
 
-// 4, 5 (length), 1 or 5 (codes) of row k, whose body starts at `at`.
-fn row_fault(s: &[u8], h: SheetHead, k: usize, at: usize) -> Fault
+// 4, 5 (length), 1 or 5 (codes) of row k, of which the table of kinds says t, and whose body starts at `at`.
+fn row_fault(s: &[u8], h: SheetHead, t: Kind, k: usize, at: usize) -> Fault
     requires { ⌜ (h ≡ headOf (now s)) × (24 + 8 * k ≤ length (now s)) × (at ≡ offsetOf (now s) k) × (at ≤ length (now s)) ⌝ }
+    requires { ⌜ t ≡ kindOf (rowKind (now s) k) ⌝ }
     ensures { λ r. ⌜ r ≡ rowFault (now (s .entry)) k ⌝ }
 {
     let kind = kind_at(s, k);
     let len = length_at(s, k);
-    let t = igvm_defs::kind_of(kind);
     if t.list != list_at(h, k) {
         return Fault {
             number: 4,
@@ -263,11 +264,13 @@ fn read_rows(s: &[u8], h: SheetHead) -> Refusal
     requires { ⌜ (h ≡ headOf (now s)) × (bodiesAt h ≤ length (now s)) ⌝ }
     ensures { λ r. ⌜ r ≡ rowsRefusal (now (s .entry)) ⌝ }
 {
+    let kinds = igvm_defs::kinds();
     let n = h.rows();
     let mut k = 0;
     let mut at = 16 + 8 * n;
     while k < n {
-        let f = row_fault(s, h, k, at);
+        let i = igvm_defs::kind_index(kind_at(s, k));
+        let f = row_fault(s, h, kinds[i], k, at);
         if f.is_fault() {
             return f.in_row((k + 1) as u64);
         }

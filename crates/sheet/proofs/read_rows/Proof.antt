@@ -1,10 +1,11 @@
-use mathlib.Core.Path.{_≡_}
+use mathlib.Core.Path.{_≡_, _∙_, ap}
 use mathlib.Core.Bool.{true, false}
 use Prim.Native.Nat.{_≤_, _-_, _<_}
 use native.Mathlib.Omega.{arith}
 use lib.ListN.{length}
 use borrow.Author.Needs.{needs}
 use denote.Ref.{now}
+use Rattle.igvm_defs.specs.Kinds.{kindOf}
 use Rattle.igvm_defs.specs.Refusals.{isFault}
 use Rattle.sheet.specs.Head.{headOf, rowCount}
 use Rattle.sheet.specs.Read.{rowFault, endFault}
@@ -15,10 +16,13 @@ use Rattle.sheet.proofs.read_rows.Statement.{statement}
 use Rattle.sheet.proofs.read_rows.Tie as tie
 
 abbrev Inv-loop : tie.InvT-loop
-Inv-loop s h n k₀ at₀ k at = (k ≤ n) × (at ≡ offsetOf s k) × (at ≤ length s) × Passed s k
+Inv-loop s h kinds n k₀ at₀ k at = (k ≤ n) × (at ≡ offsetOf s k) × (at ≤ length s) × Passed s k
 
 abbrev μ-loop : tie.MeasureT-loop
-μ-loop s h n k₀ at₀ k at = n - k
+μ-loop s h kinds n k₀ at₀ k at = n - k
+
+kinds-requires : tie.Need-kinds-requires Inv-loop μ-loop
+kinds-requires c κs = search needs
 
 rows-requires : tie.Need-rows-requires Inv-loop μ-loop
 rows-requires c κs = search needs
@@ -31,14 +35,29 @@ add-at c = search needs
 
 loop-holds : tie.Need-loop-holds Inv-loop μ-loop
 loop-holds c =
-    let st = c .before .before in
+    let st = c .before .before .before in
     let s = now (st .args .s) in
     (omega arith, rw (c .rows .ensures, st .pre .0, offset-first s), omega arith, passed-none s)
 
+kind-at-requires : tie.Need-kind-at-requires Inv-loop μ-loop
+kind-at-requires c κs = search needs
+
+kind-index-requires : tie.Need-kind-index-requires Inv-loop μ-loop
+kind-index-requires c κs = search needs
+
+mul-row-fault : tie.Need-mul-row-fault Inv-loop μ-loop
+mul-row-fault c = search needs
+
+array-copy-out-row-fault : tie.Need-array-copy-out-row-fault Inv-loop μ-loop
+array-copy-out-row-fault c = search needs
+
 row-fault-requires : tie.Need-row-fault-requires Inv-loop μ-loop
 row-fault-requires c κs =
-    let l = c .before .loop in
-    (c .before .before .before .before .pre .0, omega arith, l .inv .1, l .inv .2)
+    let p = c .before .before .before .before in
+    let l = p .loop in
+    let i = c .before .kind-index in
+    let t = p .before .before .kinds .ensures (i .result) (i .ensures .0) ∙ i .ensures .1 ∙ ap kindOf (c .before .before .kind-at .ensures) in
+    ((p .before .before .before .before .pre .0, omega arith, l .inv .1, l .inv .2), t)
 
 is-fault-requires : tie.Need-is-fault-requires Inv-loop μ-loop
 is-fault-requires c κs = search needs
@@ -51,8 +70,9 @@ in-row-requires c κs = search needs
 
 returns : tie.Need-returns Inv-loop μ-loop
 returns c =
-    let l = c .before .before .before .before .before .loop in
-    let st = c .before .before .before .before .before .before .before .before in
+    let p = c .before .before .before .before .before .before .before .before in
+    let l = p .loop in
+    let st = p .before .before .before .before in
     let s = now (st .args .s) in
     let n : l .k < rowCount (headOf s) = rw (← st .pre .0) (omega arith) in
     let f = c .before .before .before .row-fault .ensures in
@@ -73,8 +93,9 @@ loop-less c = search needs
 
 loop-again : tie.Need-loop-again Inv-loop μ-loop
 loop-again c =
-    let l = c .before .before .before .before .before .loop in
-    let st = c .before .before .before .before .before .before .before .before in
+    let p = c .before .before .before .before .before .before .before .before in
+    let l = p .loop in
+    let st = p .before .before .before .before in
     let s = now (st .args .s) in
     let f = c .before .before .before .row-fault .ensures in
     let e : isFault (rowFault s (l .k)) ≡ false = rw (← f, ← c .before .before .is-fault .ensures) (c .before .if1 .left) in
@@ -92,8 +113,9 @@ in-row-requires-2 c κs = search needs
 returns-2 : tie.Need-returns-2 Inv-loop μ-loop
 unfolding endFault
 returns-2 c =
-    let l = c .before .before .before .loop in
-    let st = c .before .before .before .before .before .before in
+    let p = c .before .before .before in
+    let l = p .loop in
+    let st = p .before .before .before .before in
     let s = now (st .args .s) in
     let k : l .k ≡ rowCount (headOf s) = rw (← st .pre .0) (omega arith) in
     rw (rows-end s (rw k at (l .inv .3)), c .in-row2 .ensures, c .before .refuse .ensures, l .inv .1, k)
@@ -104,10 +126,15 @@ read-rows-spec =
     (tie.spec
     Inv-loop
     μ-loop
+    kinds-requires
     rows-requires
     mul-at
     add-at
     loop-holds
+    kind-at-requires
+    kind-index-requires
+    mul-row-fault
+    array-copy-out-row-fault
     row-fault-requires
     is-fault-requires
     add-in-row

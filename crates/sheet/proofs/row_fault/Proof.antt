@@ -16,16 +16,15 @@ use Rattle.sheet.proofs.row_fault.Statement.{statement}
 use Rattle.sheet.proofs.row_fault.Tie as tie
 
 -- the code's tests are the definition's
-list-test : (c : tie.After-list-at) → let a = c .before .before .before .before .before .args in
-    eqb (kindOf (rowKind (now (a .s)) (a .k)) .list) (listAt (headOf (now (a .s))) (a .k)) ≡ eqb (c .before .kind-of .result .list) (c .list-at .result)
-list-test c =
-    rw (← c .before .before .before .before .before .pre .0, ← c .list-at .ensures, ← c .before .before .before .kind-at .ensures, ← c .before .kind-of .ensures)
+list-test : (c : tie.After-list-at) → let a = c .before .before .before .before .args in
+    eqb (kindOf (rowKind (now (a .s)) (a .k)) .list) (listAt (headOf (now (a .s))) (a .k)) ≡ eqb (a .t .list) (c .list-at .result)
+list-test c = let st = c .before .before .before .before in rw (← st .pre .0 .0, ← c .list-at .ensures, ← st .pre .1)
 
-long-test : (c : tie.After-length-ok) → let a = c .before .before .before .before .before .before .before .before .args in
+long-test : (c : tie.After-length-ok) → let a = c .before .before .before .before .before .before .before .args in
     lengthOk (kindOf (rowKind (now (a .s)) (a .k))) (rowLength (now (a .s)) (a .k)) ≡ c .length-ok .result
 long-test c =
-    let l = c .before .before .before in
-    rw (← l .before .before .before .kind-at .ensures, ← l .before .kind-of .ensures, ← l .before .before .length-at .ensures .0) (sym (c .length-ok .ensures))
+    let n = c .before .before .before .before in
+    rw (← n .before .before .before .pre .1, ← n .length-at .ensures .0) (sym (c .length-ok .ensures))
 
 -- past the second test the length is one that the kind allows
 long : (c : tie.Else2) → c .before .length-ok .result ≡ true
@@ -36,9 +35,6 @@ kind-at-requires c κs = search needs
 
 length-at-requires : tie.Need-length-at-requires
 length-at-requires c κs = search needs
-
-kind-of-requires : tie.Need-kind-of-requires
-kind-of-requires c κs = search needs
 
 list-at-requires : tie.Need-list-at-requires
 list-at-requires c κs = search needs
@@ -63,9 +59,9 @@ returns-3 : tie.Need-returns-3
 unfolding rowFault
 returns-3 c =
     let b = c .before .before in
-    let a = b .before .before .before .before .before .before .before .before .args in
+    let a = b .before .before .before .before .before .before .before .args in
     let s = now (a .s) in
-    let n = b .before .before .before .before .before .length-at .ensures .0 in
+    let n = b .before .before .before .before .length-at .ensures .0 in
     rw (
       list-test (b .before .before .before),
       eq-eqb _ _ (b .before .if1 .left),
@@ -80,9 +76,10 @@ part-requires c κs = search needs
 codes-ok-requires : tie.Need-codes-ok-requires
 codes-ok-requires c κs =
     let e = c .before .before in
-    let l = e .before .before .before .before in
-    let least = length-least (l .before .kind-of .result) (l .before .before .length-at .result) (sym (e .before .length-ok .ensures) ∙ long e) in
-    rw (c .part .ensures, ← l .before .kind-of .ensures) (simp (length-take, length-drop) (omega arith))
+    let n = e .before .before .before .before .before in
+    let st = n .before .before .before in
+    let least = length-least (st .args .t) (n .length-at .result) (sym (e .before .length-ok .ensures) ∙ long e) in
+    rw (c .part .ensures, n .before .kind-at .ensures, ← st .pre .1) (simp (length-take, length-drop) (omega arith))
 
 refuse-requires : tie.Need-refuse-requires
 refuse-requires c κs = search needs
@@ -92,9 +89,9 @@ unfolding rowFault bodyOf
 returns-4 c =
     let e = c .before .before .before .before in
     let b = e .before in
-    let st = b .before .before .before .before .before .before .before .before in
+    let st = b .before .before .before .before .before .before .before in
     let s = now (st .args .s) in
-    let n = b .before .before .before .before .before .length-at .ensures .0 in
+    let n = b .before .before .before .before .length-at .ensures .0 in
     rw (
       list-test (b .before .before .before),
       eq-eqb _ _ (b .before .if1 .left),
@@ -109,7 +106,6 @@ row-fault-spec =
     (tie.spec
     kind-at-requires
     length-at-requires
-    kind-of-requires
     list-at-requires
     returns
     length-ok-requires
