@@ -8,6 +8,7 @@ mod order;
 mod paper;
 mod plan;
 mod random;
+mod record;
 mod run;
 mod samples;
 mod sheet;
@@ -28,14 +29,16 @@ struct Options {
     seed: u64,
     threads: usize,
     backend: String,
+    check: bool,
     rest: Vec<String>,
 }
 
 const USAGE: &str = "compare [PART] [--cases N] [--seed N] [--threads N] [--backend library|paper] [FILE..]
-parts: all (samples, short, random, order, wrong) or one of these, with the samples' folder; speed; emit; one HEX";
+parts: all (samples, short, random, order, wrong) or one of these, with the samples' folder; speed; emit; one HEX; record [--check] FOLDER";
 
 fn options() -> Result<Options, String> {
-    let mut options = Options { part: "all".into(), cases: 5_000_000, seed: 1, threads: 1, backend: "library".into(), rest: Vec::new() };
+    let mut options =
+        Options { part: "all".into(), cases: 5_000_000, seed: 1, threads: 1, backend: "library".into(), check: false, rest: Vec::new() };
     let mut words = std::env::args().skip(1);
     let mut positional = Vec::new();
     while let Some(word) = words.next() {
@@ -46,6 +49,7 @@ fn options() -> Result<Options, String> {
             "--seed" => options.seed = number(value()?)?,
             "--threads" => options.threads = number(value()?)?.max(1) as usize,
             "--backend" => options.backend = value()?,
+            "--check" => options.check = true,
             _ if word.starts_with('-') => return Err(format!("{word}?\n{USAGE}")),
             _ => positional.push(word),
         }
@@ -77,6 +81,7 @@ fn part(o: &Options) -> Result<(), String> {
     match o.part.as_str() {
         "emit" => return samples::emit(o.seed, o.cases),
         "one" => return samples::one(o.rest.first().ok_or(USAGE)?),
+        "record" => return record::run(o.seed, o.rest.first().ok_or(USAGE)?, o.check),
         _ => {}
     }
     let calls = backend(&o.backend)?;
