@@ -4,7 +4,8 @@
 use crate::compare::{answer, Answer, Call, Rust};
 use crate::random::Random;
 use crate::sheet::hex;
-use crate::{generate, plan, shrink};
+use crate::{caught, generate, plan, shrink};
+use calls::Calls;
 use std::collections::BTreeMap;
 use std::fs;
 use std::path::Path;
@@ -26,11 +27,15 @@ struct Case {
 
 /// Writes the sample into the folder, or compares it with what is there.
 pub fn run(seed: u64, folder: &str, check: bool) -> Result<(), String> {
-    let cases = sample(seed)?;
+    let mut cases = sample(seed)?;
+    let too_large = catch_wrong_copies(seed, &mut cases)?;
+    cases.sort_by_key(|case| (case.number(), case.code()));
+    every_refusal(&cases)?;
     let calls: Vec<u8> = cases.iter().flat_map(Case::bytes).collect();
     let lines: String = cases.iter().map(Case::line).collect();
     let by_rust = cases.iter().filter(|case| case.answer.by_rust).count();
     println!("record: {} cases of {} bytes, {by_rust} of them answered by the Rust", cases.len(), calls.len());
+    println!("  they catch every wrong copy but {too_large:?}, which need larger sheets");
     for (name, bytes) in [("data/calls", calls), ("stdout", lines.into_bytes())] {
         let path = Path::new(folder).join(name);
         let failed = |error: std::io::Error| format!("{}: {error}", path.display());
@@ -43,25 +48,49 @@ pub fn run(seed: u64, folder: &str, check: bool) -> Result<(), String> {
     Ok(())
 }
 
-/// The cases in order of their numbers, each refusal among them.
+/// Cases of each sort, from random sheets.
 fn sample(seed: u64) -> Result<Vec<Case>, String> {
     let mut sample = Sample::default();
     for case in 0..SHEETS {
         let mut random = Random::new(seed, case);
         let sheet = generate::sheet(&mut random);
         if sheet.len() <= LARGE {
-            sample.offer_sheet(&mut random, sheet)?;
+            sample.offer_sheet(&mut random, &sheet)?;
         }
     }
-    let mut cases = sample.cases;
-    cases.sort_by_key(|case| (case.number(), case.code()));
+    Ok(sample.cases)
+}
+
+/// Adds the smallest case for each wrong copy that the cases do not catch. Gives the names of those whose smallest sheet is too large.
+fn catch_wrong_copies(seed: u64, cases: &mut Vec<Case>) -> Result<Vec<&'static str>, String> {
+    let mut too_large = Vec::new();
+    for (name, _, calls) in wrong::WRONG {
+        if cases.iter().any(|case| case.differs(calls)) {
+            continue;
+        }
+        let (_, difference) = caught::first_difference(calls, seed, SHEETS).ok_or(format!("record: {name} is not caught"))?;
+        let smallest = shrink::smallest(calls, difference);
+        if smallest.sheet.len() > LARGE {
+            too_large.push(*name);
+            continue;
+        }
+        let case = Case::new(&smallest.sheet, &Rust::of(&smallest.sheet), smallest.call)?;
+        if !case.differs(calls) {
+            return Err(format!("record: no case for {name}"));
+        }
+        cases.push(case);
+    }
+    Ok(too_large)
+}
+
+fn every_refusal(cases: &[Case]) -> Result<(), String> {
     for number in 1..=37 {
         let met = cases.iter().filter(|case| case.number() == number).count();
         if met < LEAST {
             return Err(format!("record: refusal {number} is met {met} times"));
         }
     }
-    Ok(cases)
+    Ok(())
 }
 
 /// Cases of one sort: the call, the refusal's number, the count of regions (6 for more) or whether a check holds, and whether the sheet is large.
@@ -77,14 +106,13 @@ struct Sample {
 
 impl Sample {
     /// The verdict, and queries as a run makes them.
-    fn offer_sheet(&mut self, random: &mut Random, sheet: Vec<u8>) -> Result<(), String> {
-        let rust = Rust::of(&sheet);
-        let answered = |call| answer(&sheet, &rust, call).map_err(|difference| shrink::text(&difference));
-        let verdict = answered(Call::Verdict)?;
-        let queries = if verdict.numbers[0] == 0 { plan::some(random, &sheet) } else { vec![plan::one(random)] };
-        self.offer(Case { sheet: sheet.clone(), call: Call::Verdict, answer: verdict });
+    fn offer_sheet(&mut self, random: &mut Random, sheet: &[u8]) -> Result<(), String> {
+        let rust = Rust::of(sheet);
+        let verdict = Case::new(sheet, &rust, Call::Verdict)?;
+        let queries = if verdict.number() == 0 { plan::some(random, sheet) } else { vec![plan::one(random)] };
+        self.offer(verdict);
         for call in queries {
-            self.offer(Case { sheet: sheet.clone(), call, answer: answered(call)? });
+            self.offer(Case::new(sheet, &rust, call)?);
         }
         Ok(())
     }
@@ -101,6 +129,19 @@ impl Sample {
 }
 
 impl Case {
+    fn new(sheet: &[u8], rust: &Rust, call: Call) -> Result<Case, String> {
+        let answer = answer(sheet, rust, call).map_err(|difference| shrink::text(&difference))?;
+        Ok(Case { sheet: sheet.to_vec(), call, answer })
+    }
+
+    /// The calls give another answer: a number, or a lent byte.
+    fn differs(&self, calls: &Calls) -> bool {
+        let mut lent = self.call.to_lend();
+        let number = |which: usize| self.call.ask(calls, &self.sheet, &mut lent, which as u32);
+        let numbers: Vec<u64> = (0..self.answer.numbers.len()).map(number).collect();
+        numbers != self.answer.numbers || lent != self.answer.lent
+    }
+
     fn number(&self) -> u64 {
         self.answer.numbers[0]
     }

@@ -90,12 +90,12 @@ fn ask(c: Call, sheet: &[u8], lent: &mut [u8], which: u32) -> u64 {
     }
 }
 
-// How many numbers an answer has.
+// How many numbers are asked for: those of the answer, and one past them.
 fn numbers(code: u8) -> u32 {
     match code {
-        0 => 6,
-        1 => 10,
-        _ => 4,
+        0 => 7,
+        1 => 11,
+        _ => 5,
     }
 }
 
@@ -178,7 +178,7 @@ fn replay(s: &[u8]) {
 }
 
 fn replay_file(fd: i32) {
-    let mut space = [0u8; 262144];
+    let mut space = [0u8; 524288];
     let n = io::read_full(fd, &mut space);
     replay(&space[..n]);
 }
