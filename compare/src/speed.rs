@@ -200,7 +200,7 @@ fn pages(rows: u64, bytes: usize) -> Image {
 
 /// A quarter of the rows are areas, then each is used twice, then each is inserted. Area n has the index n times `step`.
 fn areas(rows: u64, step: u64) -> Image {
-    let index = |area: u64| area * step & 0xFFFF_FFFF;
+    let index = |area: u64| (area * step) & 0xFFFF_FFFF;
     let count = rows / 4;
     let allocated = (0..count).map(|area| Row::new(33, &[0x1000, index(area)]));
     let used = (0..2 * count).map(|use_| Row::new(34 + (use_ % 10) as u32, &[index(use_ % count), 0]));
