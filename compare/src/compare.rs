@@ -112,6 +112,20 @@ impl Call {
         }
     }
 
+    /// Bytes to lend, as they are before the call.
+    pub fn to_lend(self) -> Vec<u8> {
+        lent_part(&mut fresh(self.lent())).to_vec()
+    }
+
+    /// How many numbers its answer has.
+    fn numbers(self) -> usize {
+        match self {
+            Call::Verdict => 6,
+            Call::Relocations { .. } => 10,
+            Call::BaseValid { .. } | Call::Contains { .. } => 4,
+        }
+    }
+
     fn by_paper(self, sheet: &[u8], words: &mut [u8]) -> Numbers {
         match self {
             Call::Verdict => numbers_of(&paper::verdict(sheet)),
@@ -175,6 +189,24 @@ pub fn check(calls: &Calls, sheet: &[u8], rust: &Rust, call: Call) -> Result<u64
         }
     }
     Ok(by_paper[0])
+}
+
+/// An answer that the calls are held to, with the lent bytes afterwards.
+pub struct Answer {
+    /// from `which` 0 to one past the answer's numbers
+    pub numbers: Vec<u64>,
+    pub lent: Vec<u8>,
+    /// the Rust answered, not document 01
+    pub by_rust: bool,
+}
+
+/// The Rust's answer where it has one, else document 01's.
+pub fn answer(sheet: &[u8], rust: &Rust, call: Call) -> Result<Answer, Difference> {
+    check(&paper::CALLS, sheet, rust, call)?;
+    let mut lent = call.to_lend();
+    let by_rust = rust.answer(call, &mut lent).ok().flatten();
+    let numbers = by_rust.unwrap_or_else(|| call.by_paper(sheet, &mut lent));
+    Ok(Answer { numbers: (0..=call.numbers()).map(|which| at(which as u32, &numbers)).collect(), lent, by_rust: by_rust.is_some() })
 }
 
 /// The decoder that feeds the Rust takes exactly the sheets that document 01 calls readable, and the Rust does not panic on the domain.

@@ -8,6 +8,7 @@ mod order;
 mod paper;
 mod plan;
 mod random;
+mod record;
 mod run;
 mod samples;
 mod sheet;
@@ -28,14 +29,25 @@ struct Options {
     seed: u64,
     threads: usize,
     backend: String,
+    check: bool,
+    speed: speed::Settings,
     rest: Vec<String>,
 }
 
 const USAGE: &str = "compare [PART] [--cases N] [--seed N] [--threads N] [--backend library|paper] [FILE..]
-parts: all (samples, short, random, order, wrong) or one of these, with the samples' folder; speed; emit; one HEX";
+parts: all (samples, short, random, order, wrong) or one of these, with the samples' folder; speed; emit; one HEX; record [--check] FOLDER";
 
 fn options() -> Result<Options, String> {
-    let mut options = Options { part: "all".into(), cases: 5_000_000, seed: 1, threads: 1, backend: "library".into(), rest: Vec::new() };
+    let mut options = Options {
+        part: "all".into(),
+        cases: 5_000_000,
+        seed: 1,
+        threads: 1,
+        backend: "library".into(),
+        check: false,
+        speed: speed::Settings { only: None, side: None, rounds: 300 },
+        rest: Vec::new(),
+    };
     let mut words = std::env::args().skip(1);
     let mut positional = Vec::new();
     while let Some(word) = words.next() {
@@ -46,6 +58,10 @@ fn options() -> Result<Options, String> {
             "--seed" => options.seed = number(value()?)?,
             "--threads" => options.threads = number(value()?)?.max(1) as usize,
             "--backend" => options.backend = value()?,
+            "--check" => options.check = true,
+            "--only" => options.speed.only = Some(value()?),
+            "--side" => options.speed.side = Some(value()?),
+            "--rounds" => options.speed.rounds = number(value()?)?,
             _ if word.starts_with('-') => return Err(format!("{word}?\n{USAGE}")),
             _ => positional.push(word),
         }
@@ -77,6 +93,8 @@ fn part(o: &Options) -> Result<(), String> {
     match o.part.as_str() {
         "emit" => return samples::emit(o.seed, o.cases),
         "one" => return samples::one(o.rest.first().ok_or(USAGE)?),
+        "speed" if o.rest.first().is_some_and(|word| word == "names") => return speed::names(),
+        "record" => return record::run(o.seed, o.rest.first().ok_or(USAGE)?, o.check),
         _ => {}
     }
     let calls = backend(&o.backend)?;
@@ -88,7 +106,7 @@ fn part(o: &Options) -> Result<(), String> {
         "random" => random_sheets(&calls, o).map(|tally| tally.print()),
         "order" => order::run(&calls, o.seed, o.cases),
         "wrong" => wrong_copies(o),
-        "speed" => speed::run(&calls, o.seed),
+        "speed" => return speed::run(&calls, &o.speed),
         "all" => all(&calls, o),
         _ => Err(USAGE.into()),
     }?;

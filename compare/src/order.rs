@@ -3,7 +3,7 @@
 use crate::compare::Call;
 use crate::generate;
 use crate::random::Random;
-use crate::sheet::{fields_length, Image, Row};
+use crate::sheet::{fields_length, hex, Image, Row};
 use calls::Calls;
 
 /// A sheet, the same sheet reordered, and for each list where row i of the first stands in the second.
@@ -266,8 +266,4 @@ fn swapped(calls: &Calls, random: &mut Random, image: &Image, counts: &mut Count
         *swaps += 1;
         *differ += differs;
     }
-}
-
-fn hex(bytes: &[u8]) -> String {
-    bytes.iter().map(|byte| format!("{byte:02x}")).collect()
 }

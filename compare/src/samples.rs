@@ -3,6 +3,7 @@
 use crate::compare::{check, Call, Rust};
 use crate::library::LIBRARY;
 use crate::random::Random;
+use crate::sheet::hex;
 use crate::{generate, line, paper, plan};
 use calls::Calls;
 use std::fs;
@@ -59,8 +60,4 @@ pub fn one(digits: &str) -> Result<(), String> {
         Err(message) => println!("the Rust{domain}: panicked: {message}"),
     }
     Ok(())
-}
-
-fn hex(bytes: &[u8]) -> String {
-    bytes.iter().map(|byte| format!("{byte:02x}")).collect()
 }

@@ -172,3 +172,8 @@ impl Image {
         Some(image)
     }
 }
+
+/// Hexadecimal digits, two for a byte.
+pub fn hex(bytes: &[u8]) -> String {
+    bytes.iter().map(|byte| format!("{byte:02x}")).collect()
+}

@@ -40,7 +40,7 @@ fn product(sets: &[&[u64]], each: &mut dyn FnMut(&[u64]) -> bool) -> bool {
     choose(sets, &mut Vec::new(), each)
 }
 
-fn native() -> Row {
+pub fn native() -> Row {
     Row::new(1, &[1, 0, 0, 1, 0])
 }
 
@@ -49,16 +49,16 @@ fn vsm(mask: u64) -> Row {
     Row::new(1, &[mask, 0, 1, 1, 0])
 }
 
-fn region(mask: u64, gpa: u64, size: u64) -> Row {
+pub fn region(mask: u64, gpa: u64, size: u64) -> Row {
     Row::new(18, &[mask, 0x1000, gpa, size, 0, TOP, 0, 0, 0])
 }
 
-fn page_table(mask: u64, gpa: u64, size: u64) -> Row {
+pub fn page_table(mask: u64, gpa: u64, size: u64) -> Row {
     Row::new(19, &[mask, gpa, size, 0, 0, 0])
 }
 
 /// A VBS context of the arch.
-fn vbs(arch: u8, mask: u64, vtl: u64) -> Row {
+pub fn vbs(arch: u8, mask: u64, vtl: u64) -> Row {
     Row::new(if arch == 0 { 47 } else { 48 }, &[mask, vtl])
 }
 

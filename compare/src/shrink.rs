@@ -1,7 +1,7 @@
 //! The smallest sheet near a given one on which two answers still differ: rows dropped, opaque bytes cut, fields set to 0.
 
 use crate::compare::{check, Call, Difference, Rust};
-use crate::sheet::{fields, fields_length, Image};
+use crate::sheet::{fields, fields_length, hex, Image};
 use calls::Calls;
 
 /// The difference on the smallest sheet and the simplest call that were found.
@@ -117,7 +117,7 @@ fn calls_below(call: Call) -> Vec<Call> {
 
 /// The difference as text: what differs, the call, and the sheet in hexadecimal digits.
 pub fn text(difference: &Difference) -> String {
-    let hex: String = difference.sheet.iter().take(2000).map(|byte| format!("{byte:02x}")).collect();
     let length = difference.sheet.len();
-    format!("{:?}: {}\n  sheet of {length} bytes: {hex}", difference.call, difference.what)
+    let digits = hex(&difference.sheet[..length.min(2000)]);
+    format!("{:?}: {}\n  sheet of {length} bytes: {digits}", difference.call, difference.what)
 }

@@ -3,6 +3,7 @@
 use crate::*;
 
 /// The headers of a readable sheet.
+#[derive(Clone)]
 pub struct Headers {
     pub revision: IgvmRevision,
     pub platforms: Vec<IgvmPlatformHeader>,

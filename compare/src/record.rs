@@ -1,0 +1,223 @@
+//! A sample of answers for a replay without the Rust: `data/calls` and `stdout` of the program crates/replay.
+//! Every answer is the Rust's, or document 01's where the Rust has none; the library is not asked.
+
+use crate::compare::{answer, Answer, Call, Rust};
+use crate::random::Random;
+use crate::sheet::hex;
+use crate::{caught, generate, plan, shrink};
+use calls::Calls;
+use std::collections::BTreeMap;
+use std::fs;
+use std::path::Path;
+
+/// Random sheets that the sample is taken from.
+const SHEETS: u64 = 40_000;
+/// The greatest length of most sheets, and of the few that hold a page of data or many rows.
+const SMALL: usize = 600;
+const LARGE: usize = 9000;
+/// The cases that each refusal must have at least.
+const LEAST: usize = 3;
+
+/// One call on one sheet, with its answer.
+struct Case {
+    sheet: Vec<u8>,
+    call: Call,
+    answer: Answer,
+}
+
+/// Writes the sample into the folder, or compares it with what is there.
+pub fn run(seed: u64, folder: &str, check: bool) -> Result<(), String> {
+    let mut cases = sample(seed)?;
+    let too_large = catch_wrong_copies(seed, &mut cases)?;
+    cases.sort_by_key(|case| (case.number(), case.code()));
+    every_refusal(&cases)?;
+    let calls: Vec<u8> = cases.iter().flat_map(Case::bytes).collect();
+    let lines: String = cases.iter().map(Case::line).collect();
+    let by_rust = cases.iter().filter(|case| case.answer.by_rust).count();
+    println!("record: {} cases of {} bytes, {by_rust} of them answered by the Rust", cases.len(), calls.len());
+    println!("  they catch every wrong copy but {too_large:?}, which need larger sheets");
+    for (name, bytes) in [("data/calls", calls), ("stdout", lines.into_bytes())] {
+        let path = Path::new(folder).join(name);
+        let failed = |error: std::io::Error| format!("{}: {error}", path.display());
+        if !check {
+            fs::write(&path, bytes).map_err(failed)?;
+        } else if fs::read(&path).map_err(failed)? != bytes {
+            return Err(format!("{} is not what `record` writes", path.display()));
+        }
+    }
+    Ok(())
+}
+
+/// Cases of each sort, from random sheets.
+fn sample(seed: u64) -> Result<Vec<Case>, String> {
+    let mut sample = Sample::default();
+    for case in 0..SHEETS {
+        let mut random = Random::new(seed, case);
+        let sheet = generate::sheet(&mut random);
+        if sheet.len() <= LARGE {
+            sample.offer_sheet(&mut random, &sheet)?;
+        }
+    }
+    Ok(sample.cases)
+}
+
+/// Adds the smallest case for each wrong copy that the cases do not catch. Gives the names of those whose smallest sheet is too large.
+fn catch_wrong_copies(seed: u64, cases: &mut Vec<Case>) -> Result<Vec<&'static str>, String> {
+    let mut too_large = Vec::new();
+    for (name, _, calls) in wrong::WRONG {
+        if cases.iter().any(|case| case.differs(calls)) {
+            continue;
+        }
+        let (_, difference) = caught::first_difference(calls, seed, SHEETS).ok_or(format!("record: {name} is not caught"))?;
+        let smallest = shrink::smallest(calls, difference);
+        if smallest.sheet.len() > LARGE {
+            too_large.push(*name);
+            continue;
+        }
+        let case = Case::new(&smallest.sheet, &Rust::of(&smallest.sheet), smallest.call)?;
+        if !case.differs(calls) {
+            return Err(format!("record: no case for {name}"));
+        }
+        cases.push(case);
+    }
+    Ok(too_large)
+}
+
+fn every_refusal(cases: &[Case]) -> Result<(), String> {
+    for number in 1..=37 {
+        let met = cases.iter().filter(|case| case.number() == number).count();
+        if met < LEAST {
+            return Err(format!("record: refusal {number} is met {met} times"));
+        }
+    }
+    Ok(())
+}
+
+/// Cases of one sort: the call, the refusal's number, the count of regions (6 for more) or whether a check holds, and whether the sheet is large.
+type Group = (u8, u64, u64, bool);
+
+#[derive(Default)]
+struct Sample {
+    cases: Vec<Case>,
+    groups: BTreeMap<Group, usize>,
+    /// by call and all numbers
+    answers: BTreeMap<(u8, Vec<u64>), usize>,
+}
+
+impl Sample {
+    /// The verdict, and queries as a run makes them.
+    fn offer_sheet(&mut self, random: &mut Random, sheet: &[u8]) -> Result<(), String> {
+        let rust = Rust::of(sheet);
+        let verdict = Case::new(sheet, &rust, Call::Verdict)?;
+        let queries = if verdict.number() == 0 { plan::some(random, sheet) } else { vec![plan::one(random)] };
+        self.offer(verdict);
+        for call in queries {
+            self.offer(Case::new(sheet, &rust, call)?);
+        }
+        Ok(())
+    }
+
+    /// Takes the case if there is room for one more of its sort.
+    fn offer(&mut self, case: Case) {
+        let group = self.groups.entry(case.group()).or_default();
+        let same = self.answers.entry((case.code(), case.answer.numbers.clone())).or_default();
+        if *group < case.room() && *same < case.room_of_answer() {
+            (*group, *same) = (*group + 1, *same + 1);
+            self.cases.push(case);
+        }
+    }
+}
+
+impl Case {
+    fn new(sheet: &[u8], rust: &Rust, call: Call) -> Result<Case, String> {
+        let answer = answer(sheet, rust, call).map_err(|difference| shrink::text(&difference))?;
+        Ok(Case { sheet: sheet.to_vec(), call, answer })
+    }
+
+    /// The calls give another answer: a number, or a lent byte.
+    fn differs(&self, calls: &Calls) -> bool {
+        let mut lent = self.call.to_lend();
+        let number = |which: usize| self.call.ask(calls, &self.sheet, &mut lent, which as u32);
+        let numbers: Vec<u64> = (0..self.answer.numbers.len()).map(number).collect();
+        numbers != self.answer.numbers || lent != self.answer.lent
+    }
+
+    fn number(&self) -> u64 {
+        self.answer.numbers[0]
+    }
+
+    fn is_large(&self) -> bool {
+        self.sheet.len() > SMALL
+    }
+
+    fn code(&self) -> u8 {
+        match self.call {
+            Call::Verdict => 0,
+            Call::Relocations { .. } => 1,
+            Call::BaseValid { .. } => 2,
+            Call::Contains { .. } => 3,
+        }
+    }
+
+    fn group(&self) -> Group {
+        let found = if self.call == Call::Verdict { 0 } else { self.answer.numbers[3].min(6) };
+        (self.code(), self.number(), found, self.is_large())
+    }
+
+    /// How many cases are taken of one group.
+    fn room(&self) -> usize {
+        match (self.is_large(), self.number(), self.call) {
+            (true, 0 | 31, _) => 2,
+            (true, _, _) => 0,
+            (_, 0, Call::Verdict) => 24,
+            (_, 0, Call::Relocations { .. }) => 8,
+            (_, 0, _) => 12,
+            (_, 35..=37, _) | (_, _, Call::Verdict) => 6,
+            _ => 1,
+        }
+    }
+
+    /// How many cases are taken of one call and answer: fewer where it names a row, so that rows and details differ.
+    fn room_of_answer(&self) -> usize {
+        match (self.number(), self.call, self.answer.numbers[1]) {
+            (0, Call::BaseValid { .. } | Call::Contains { .. }, _) => 12,
+            (35..=37, _, _) => 6,
+            (_, _, 0) => 4,
+            _ => 2,
+        }
+    }
+
+    /// A head of 32 bytes, then the sheet: call, who answered (1 the Rust), two zero bytes, mask u32, region u64, base or gpa u64, lent bytes u32,
+    /// the sheet's bytes u32.
+    fn bytes(&self) -> Vec<u8> {
+        let (region, value, lent) = match self.call {
+            Call::Verdict => (0, 0, 0),
+            Call::Relocations { lent, .. } => (0, 0, lent),
+            Call::BaseValid { region, base, .. } => (region, base, 0),
+            Call::Contains { region, gpa, .. } => (region, gpa, 0),
+        };
+        let mut bytes = vec![self.code(), u8::from(self.answer.by_rust), 0, 0];
+        bytes.extend(self.call.mask().to_le_bytes());
+        bytes.extend(region.to_le_bytes());
+        bytes.extend(value.to_le_bytes());
+        bytes.extend((lent as u32).to_le_bytes());
+        bytes.extend((self.sheet.len() as u32).to_le_bytes());
+        bytes.extend(&self.sheet);
+        bytes
+    }
+
+    /// Who answered, the call, every number, and of a region list the lent bytes afterwards, eight to a group.
+    fn line(&self) -> String {
+        let who = if self.answer.by_rust { "rust" } else { "01" };
+        let call = match self.call {
+            Call::Verdict => "verdict".into(),
+            Call::Relocations { mask, lent } => format!("relocations mask {mask} lent {lent}"),
+            Call::BaseValid { mask, region, base } => format!("relocation_base_valid mask {mask} region {region} base {base}"),
+            Call::Contains { mask, region, gpa } => format!("contains mask {mask} region {region} gpa {gpa}"),
+        };
+        let numbers: String = self.answer.numbers.iter().map(|number| format!(" {number}")).collect();
+        let bytes: String = self.answer.lent.chunks(8).map(|group| format!(" {}", hex(group))).collect();
+        let bytes = if let Call::Relocations { .. } = self.call { format!(" bytes{bytes}") } else { bytes };
+        format!("{who} {call}:{numbers}{bytes}\n")
+    }
+}
