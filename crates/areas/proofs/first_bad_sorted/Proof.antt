@@ -6,8 +6,8 @@ use Rattle.areas.proofs.first_bad_sorted.Tie as tie
 rows-naming-requires : tie.Need-rows-naming-requires
 rows-naming-requires c κs = search needs
 
-sort-requires : tie.Need-sort-requires
-sort-requires c κs = search needs
+arrange-requires : tie.Need-arrange-requires
+arrange-requires c κs = search needs
 
 ordered-requires : tie.Need-ordered-requires
 ordered-requires c κs = search needs
@@ -32,7 +32,7 @@ first-bad-sorted-spec =
     tie.close
     (tie.spec
     rows-naming-requires
-    sort-requires
+    arrange-requires
     ordered-requires
     first-bad-requires
     returns
