@@ -1,12 +1,13 @@
 // Initialization headers: refusals 16 to 29, header by header, and the record of regions.
 ghost use mathlib.Core.Path.{_≡_};
-ghost use mathlib.Core.Bool.{not};
+ghost use mathlib.Core.Bool.{not, _&&_};
 ghost use Prim.Native.Nat.{ℕ, _+_, _<_, _≤_};
 ghost use Rattle.rows.specs.Rows.{Rows, before};
 ghost use Rattle.platform_header.specs.declared.IgvmPlatformHeader.{IgvmPlatformHeader};
 ghost use Rattle.initialization_header.specs.declared.IgvmInitializationHeader.{IgvmInitializationHeader};
 ghost use Rattle.igvm_defs.specs.Refusals.{noFault};
-ghost use Rattle.masks.specs.Masks.{individualMasks, firstMask};
+ghost use Rattle.masks.specs.Masks.{shares, individualMasks, firstMask};
+ghost use Rattle.addresses.specs.Addresses.{meets};
 ghost use Rattle.platforms.specs.Record.{HoldsPlatforms, lastTypeIsCca};
 ghost use Rattle.rules.specs.Regions.{tablesShare, overlap, tableHolds};
 ghost use Rattle.rules.specs.Initializations.{validateAddresses, validateRegion, validateTable, validateInitialization, refuseBit};
@@ -153,6 +154,13 @@ fn any_tables_share<'a>(r: Region, masks: &'a [u32; 64], tables: &'a [bool; 64],
     found
 }
 
+// r shares a bit with the mask, and an address with the size bytes from gpa.
+fn overlaps(r: Region, mask: u32, gpa: u64, size: u64) -> bool
+    ensures { λ s. ⌜ s ≡ (shares (r .mask) mask && meets (r .gpa) (r .size) gpa size) ⌝ }
+{
+    masks::shares(r.mask, mask) & addresses::meets(r.gpa, r.size, gpa, size)
+}
+
 // Some of the first n regions shares a bit with r, and an address.
 fn any_overlap<'a>(
     r: Region,
@@ -167,9 +175,7 @@ fn any_overlap<'a>(
     let mut i = 0;
     let mut found = false;
     while i < n {
-        found = found
-            | (masks::shares(r.mask, masks[i])
-                & addresses::meets(r.gpa, r.size, gpas[i], sizes[i]));
+        found = found | overlaps(r, masks[i], gpas[i], sizes[i]);
         i += 1;
     }
     found
