@@ -145,10 +145,13 @@ fn any_tables_share<'a>(r: Region, masks: &'a [u32; 64], tables: &'a [bool; 64],
     requires { ⌜ n ≤ 64 ⌝ }
     ensures { λ s. ⌜ s ≡ anyTablesShare r (now (masks .entry)) (now (tables .entry)) n ⌝ }
 {
+    if !r.page_table {
+        return false;
+    }
     let mut i = 0;
     let mut found = false;
     while i < n {
-        found = found | (r.page_table & tables[i] & masks::shares(r.mask, masks[i]));
+        found = found | (tables[i] & masks::shares(r.mask, masks[i]));
         i += 1;
     }
     found
