@@ -1,13 +1,14 @@
 -- What is wrong with an initialization header, kind by kind.
 -- Assumes nothing.
-use mathlib.Core.Path.{_≡_, refl, ap}
-use mathlib.Core.Bool.{false, not, false≢true}
+use mathlib.Core.Path.{_≡_, refl, sym, ap}
+use mathlib.Core.Bool.{Bool, true, false, not, cond, false≢true}
 use mathlib.Core.Option.{none, some}
 use Prim.Native.Nat.{ℕ}
+use lib.Dec.{eqb}
 use Rattle.rows.specs.Rows.{Rows, any}
 use Rattle.igvm_defs.specs.declared.Arch.{Arch}
-use Rattle.igvm_defs.specs.Refusals.{fault, noFault, refuse, isFault, orFault}
-use Rattle.igvm_defs.specs.Revision.{isAArch64}
+use Rattle.igvm_defs.specs.declared.Fault.{Fault}
+use Rattle.igvm_defs.specs.Refusals.{noFault, isFault, orFault}
 use Rattle.masks.specs.Masks.{individualMasks, firstMask}
 use Rattle.masks.proofs.MaskLaws.{first-mask-same}
 use Rattle.platform_header.specs.declared.IgvmPlatformHeader.{IgvmPlatformHeader}
@@ -17,35 +18,52 @@ use Rattle.platforms.specs.Record.{HoldsPlatforms, lastTypeIsCca}
 use Rattle.platforms.proofs.RecordLaws.{holds-cca}
 use Rattle.initialization_header.specs.declared.IgvmInitializationHeader.{IgvmInitializationHeader}
 use Rattle.initialization_header.specs.declared.IgvmInitializationHeader.the-variants.{GuestPolicy, CcaPolicy, RelocatableRegion, PageTableRelocationRegion}
+use Rattle.initialization_header.specs.Fields.{kindNumber}
 use Rattle.rules.specs.declared.Region.{Region}
 use Rattle.rules.specs.Regions.{regionOf, regionPasses, tablesShare, overlap}
-use Rattle.rules.specs.Initializations.{validateInitialization, wrongArch, bitWithoutCca, withoutCca, refuseBit, initializationFault}
-use Rattle.initializations.specs.Record.{regionFault}
+use Rattle.rules.specs.Initializations.{validateInitialization, wrongArch, bitWithoutCca, withoutCca, initializationFault}
+use Rattle.initializations.specs.Record.{policyFault, regionFault}
 
-module _ (arch : Arch) (platforms : Rows IgvmPlatformHeader) (earlier : Rows IgvmInitializationHeader) where
-  -- kind 16 has none
-  pub guest-policy-fault : (policy mask : ℕ) → initializationFault arch platforms earlier (GuestPolicy policy mask) ≡ noFault
-  unfolding initializationFault regionPasses isFault
-  guest-policy-fault policy mask = refl
+-- a header of kind 16 or 17
+pub no-region : (h : IgvmInitializationHeader) → eqb (kindNumber h) 18 ≡ false → eqb (kindNumber h) 19 ≡ false → regionOf h ≡ none
+no-region (GuestPolicy policy mask) a b = refl
+no-region (CcaPolicy mask zeroes ones) a b = refl
+no-region (RelocatableRegion mask alignment gpa size minimum maximum vtl2 rip gdtr vp vtl) a b = absurd (false≢true (sym a))
+no-region (PageTableRelocationRegion mask gpa size used vp vtl) a b = absurd (false≢true (sym b))
 
-  -- kind 17: 16, 24, 25
-  pub cca-policy-fault : (mask zeroes ones : ℕ) → initializationFault arch platforms earlier (CcaPolicy mask zeroes ones)
-      ≡ orFault (validateInitialization (CcaPolicy mask zeroes ones)) (refuse (not (isAArch64 arch)) (fault 24 17) (refuseBit (bitWithoutCca platforms mask) noFault))
-  unfolding initializationFault regionPasses
-  cca-policy-fault mask zeroes ones = refl
+-- a fault is taken once
+or-none : (f later : Fault) → orFault (orFault f noFault) later ≡ orFault f later
+unfolding isFault
+or-none f later = go (isFault f) refl
+  where
+    go : (b : Bool) → isFault f ≡ b → orFault (orFault f noFault) later ≡ orFault f later
+    go true e = rw (e, e)
+    go false e = rw e
+
+module _ (arch : Arch) (platforms : Rows IgvmPlatformHeader) where
+  -- a header of another kind than 17
+  pub no-policy : (h : IgvmInitializationHeader) → eqb (kindNumber h) 17 ≡ false → policyFault arch platforms h ≡ noFault
+  unfolding policyFault
+  no-policy (GuestPolicy policy mask) e = refl
+  no-policy (CcaPolicy mask zeroes ones) e = absurd (false≢true (sym e))
+  no-policy (RelocatableRegion mask alignment gpa size minimum maximum vtl2 rip gdtr vp vtl) e = refl
+  no-policy (PageTableRelocationRegion mask gpa size used vp vtl) e = refl
 
   -- a header with a region is no CcaPolicy
-  no-policy : (h : IgvmInitializationHeader) (r : Region) → regionOf h ≡ some r → (wrongArch arch h ≡ false) × (withoutCca platforms h ≡ none)
-  no-policy (GuestPolicy policy mask) r e = (refl, refl)
-  no-policy (CcaPolicy mask zeroes ones) r e = absurd (false≢true (cc))
-  no-policy (RelocatableRegion mask alignment gpa size minimum maximum vtl2 rip gdtr vp vtl) r e = (refl, refl)
-  no-policy (PageTableRelocationRegion mask gpa size used vp vtl) r e = (refl, refl)
+  region-no-policy : (h : IgvmInitializationHeader) (r : Region) → regionOf h ≡ some r → (wrongArch arch h ≡ false) × (withoutCca platforms h ≡ none)
+  region-no-policy (GuestPolicy policy mask) r e = (refl, refl)
+  region-no-policy (CcaPolicy mask zeroes ones) r e = absurd (false≢true (cc))
+  region-no-policy (RelocatableRegion mask alignment gpa size minimum maximum vtl2 rip gdtr vp vtl) r e = (refl, refl)
+  region-no-policy (PageTableRelocationRegion mask gpa size used vp vtl) r e = (refl, refl)
 
-  -- kinds 18 and 19: the header alone, then 26, 27, 28, 29
-  pub region-fault : (h : IgvmInitializationHeader) (r : Region) → regionOf h ≡ some r → initializationFault arch platforms earlier h
-      ≡ regionFault (validateInitialization h) (any (regionPasses (tablesShare r)) earlier) (any (regionPasses (overlap r)) earlier) r
-  unfolding initializationFault regionPasses regionFault
-  region-fault h r e = let (a, b) = no-policy h r e in rw (a, b, e)
+  -- the header's own fault, then, where it has a region, 26, 27, 28, 29
+  pub row-fault : (earlier : Rows IgvmInitializationHeader) (h : IgvmInitializationHeader) (found : Bool) (r : Region) → regionOf h ≡ cond found (some r) none
+      → initializationFault arch platforms earlier h
+      ≡ (let own = orFault (validateInitialization h) (policyFault arch platforms h) in
+      cond found (regionFault own (any (regionPasses (tablesShare r)) earlier) (any (regionPasses (overlap r)) earlier) r) own)
+  unfolding initializationFault regionPasses policyFault regionFault
+  row-fault earlier h true r e = let (a, b) = region-no-policy h r e in rw (a, b, e) (sym (or-none (validateInitialization h) _))
+  row-fault earlier h false r e = rw e
 
 -- for 25: a record of the platform rows finds the same bit
 pub holds-bit : (r : Platforms) (xs : Rows IgvmPlatformHeader) (mask : ℕ) → HoldsPlatforms r xs

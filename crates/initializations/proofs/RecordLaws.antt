@@ -1,20 +1,22 @@
 -- The record of regions answers for the rows that it holds.
 -- Assumes nothing.
 use mathlib.Core.Path.{_≡_, refl, ap, ap₂, _∙_}
-use mathlib.Core.Bool.{Bool, false, _||_, or-false}
+use mathlib.Core.Bool.{Bool, true, false, cond, _||_, or-false}
 use mathlib.Core.Option.{none, some}
 use Prim.Native.Nat.{ℕ, _+_, _<_}
+use native.Mathlib.Nat.{add-zero}
 use native.Mathlib.Omega.{arith}
-use lib.ListN.{length, getD, set}
+use lib.ListN.{length, set}
 use lib.Seq.{getD-set-same, getD-set-other}
+use mir.Val.{boolByte}
 use Rattle.rows.specs.Below.{anyBelow}
-use Rattle.rows.specs.Rows.{Rows, any, before}
+use Rattle.rows.specs.Rows.{Rows, before}
 use Rattle.rows.proofs.BelowLaws.{any-more, any-same-tests}
 use Rattle.initialization_header.specs.declared.IgvmInitializationHeader.{IgvmInitializationHeader}
 use Rattle.rules.specs.declared.Region.{Region}
 use Rattle.initializations.specs.declared.RelocRegions.{RelocRegions}
 use Rattle.rules.specs.Regions.{regionOf, regionPasses}
-use Rattle.initializations.specs.Record.{entry, Pushed, HoldsRegions}
+use Rattle.initializations.specs.Record.{entry, anyRegion, Pushed, HoldsRegions}
 
 -- no region, and no row
 pub holds-none : (r : RelocRegions) (xs : Rows IgvmInitializationHeader) → r .count ≡ 0 → HoldsRegions r (before 0 xs)
@@ -22,7 +24,7 @@ unfolding anyBelow
 holds-none r xs e = record { count = omega arith; same = λ p. rw e }
 
 -- a row with a region
-pub holds-pushed : (r : RelocRegions) (xs : Rows IgvmInitializationHeader) (i : ℕ) (new : Region) (q : RelocRegions)
+holds-pushed : (r : RelocRegions) (xs : Rows IgvmInitializationHeader) (i : ℕ) (new : Region) (q : RelocRegions)
     → HoldsRegions r (before i xs) → regionOf (xs .row i) ≡ some new → Pushed r new q → HoldsRegions q (before (i + 1) xs)
 unfolding regionPasses
 holds-pushed r xs i new q held e pushed =
@@ -32,13 +34,13 @@ holds-pushed r xs i new q held e pushed =
     }
 
 -- a row with no region
-pub holds-kept : (r : RelocRegions) (xs : Rows IgvmInitializationHeader) (i : ℕ) → HoldsRegions r (before i xs) → regionOf (xs .row i) ≡ none
-    → HoldsRegions r (before (i + 1) xs)
+holds-kept : (r : RelocRegions) (xs : Rows IgvmInitializationHeader) (i : ℕ) (q : RelocRegions) → HoldsRegions r (before i xs) → regionOf (xs .row i) ≡ none
+    → q .count ≡ r .count → ((p : Region → Bool) → anyRegion p q ≡ anyRegion p r) → HoldsRegions q (before (i + 1) xs)
 unfolding regionPasses
-holds-kept r xs i held e =
+holds-kept r xs i q held e count same =
     record {
       count = let l = held .count in omega arith;
-      same = λ p. held .same p ∙ rw (any-more i (λ j. regionPasses p (xs .row j)), e, or-false);
+      same = λ p. same p ∙ held .same p ∙ rw (any-more i (λ j. regionPasses p (xs .row j)), e, or-false);
     }
 
 -- the record looks at no row but those that it holds
@@ -50,9 +52,14 @@ holds-same r xs ys e same held =
       same = λ p. held .same p ∙ rw (← e) (any-same-tests (xs .count) (λ i. regionPasses p (xs .row i)) (λ i. regionPasses p (ys .row i)) (λ i l. ap (regionPasses p) (same i l)));
     }
 
--- a region behind those of the record
-abbrev stored : RelocRegions → Region → RelocRegions
-stored r new =
+-- the arrays' lengths
+abbrev pub Lengths : RelocRegions → Type 0
+Lengths r =
+    (length (r .mask) ≡ 64) × (length (r .gpa) ≡ 64) × (length (r .size) ≡ 64) × (length (r .«vp_index») ≡ 64) × (length (r .vtl) ≡ 64) × (length (r .«page_table») ≡ 64)
+
+-- a region behind those of the record, counted where there is one
+abbrev stored : RelocRegions → Bool → Region → RelocRegions
+stored r found new =
     record {
       mask = set (r .mask) (r .count) (new .mask);
       gpa = set (r .gpa) (r .count) (new .gpa);
@@ -60,12 +67,12 @@ stored r new =
       «vp_index» = set (r .«vp_index») (r .count) (new .«vp_index»);
       vtl = set (r .vtl) (r .count) (new .vtl);
       «page_table» = set (r .«page_table») (r .count) (new .«page_table»);
-      count = r .count + 1;
+      count = r .count + boolByte found;
     }
 
-module _ (r : RelocRegions) (new : Region) (room : r .count < 64) where
-  entry-before : (i : ℕ) → i < r .count → entry (stored r new) i ≡ entry r i
-  entry-before i l =
+module _ (r : RelocRegions) (new : Region) (room : r .count < 64) (lengths : Lengths r) where
+  entry-before : (found : Bool) (i : ℕ) → i < r .count → entry (stored r found new) i ≡ entry r i
+  entry-before found i l =
       let ne : (i ≡ r .count → ⊥) = λ e. omega arith in
       rw (
         getD-set-other (r .mask) (r .count) i (new .mask) 0 ne,
@@ -76,19 +83,20 @@ module _ (r : RelocRegions) (new : Region) (room : r .count < 64) where
         getD-set-other (r .«page_table») (r .count) i (new .«page_table») false ne,
       )
 
-  pub stored-pushed : length (r .mask) ≡ 64 → length (r .gpa) ≡ 64 → length (r .size) ≡ 64 → length (r .«vp_index») ≡ 64 → length (r .vtl) ≡ 64 → length (r .«page_table») ≡ 64
-      → Pushed r new (stored r new)
-  stored-pushed lm lg ls lp lv lt =
+  -- the regions that the record had
+  same-before : (found : Bool) (p : Region → Bool) → anyBelow (r .count) (λ i. p (entry (stored r found new) i)) ≡ anyRegion p r
+  same-before found p = any-same-tests (r .count) (λ i. p (entry (stored r found new) i)) (λ i. p (entry r i)) (λ i l. ap p (entry-before found i l))
+
+  stored-pushed : Pushed r new (stored r true new)
+  stored-pushed =
       record {
         count = refl;
-        same =
-            λ p.
-            any-more (r .count) (λ i. p (entry (stored r new) i))
-            ∙ ap₂ (λ (a b : Bool). a || b) (any-same-tests (r .count) (λ i. p (entry (stored r new) i)) (λ i. p (entry r i)) (λ i l. ap p (entry-before i l))) (ap p last);
+        same = λ p. any-more (r .count) (λ i. p (entry (stored r true new) i)) ∙ ap₂ (λ (a b : Bool). a || b) (same-before true p) (ap p last);
       }
     where
-      last : entry (stored r new) (r .count) ≡ new
+      last : entry (stored r true new) (r .count) ≡ new
       last =
+          let (m, g, s, p, v, t) = lengths in
           rw (
             getD-set-same (r .mask) (r .count) (new .mask) 0 (omega arith),
             getD-set-same (r .gpa) (r .count) (new .gpa) 0 (omega arith),
@@ -97,3 +105,9 @@ module _ (r : RelocRegions) (new : Region) (room : r .count < 64) where
             getD-set-same (r .vtl) (r .count) (new .vtl) 0 (omega arith),
             getD-set-same (r .«page_table») (r .count) (new .«page_table») false (omega arith),
           )
+
+  -- one row more
+  pub holds-stored : (xs : Rows IgvmInitializationHeader) (i : ℕ) (found : Bool) → HoldsRegions r (before i xs) → regionOf (xs .row i) ≡ cond found (some new) none
+      → HoldsRegions (stored r found new) (before (i + 1) xs)
+  holds-stored xs i true held e = holds-pushed r xs i new (stored r true new) held e stored-pushed
+  holds-stored xs i false held e = holds-kept r xs i (stored r false new) held e (omega arith) (λ p. rw add-zero (same-before false p))

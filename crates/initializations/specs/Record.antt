@@ -17,7 +17,7 @@ use Rattle.initialization_header.specs.declared.IgvmInitializationHeader.{IgvmI
 use Rattle.rules.specs.declared.Region.{Region}
 use Rattle.initializations.specs.declared.RelocRegions.{RelocRegions}
 use Rattle.rules.specs.Regions.{regionPasses}
-use Rattle.rules.specs.Initializations.{initializationFault}
+use Rattle.rules.specs.Initializations.{wrongArch, withoutCca, refuseBit, initializationFault}
 
 -- region i of the record
 abbrev pub entry : RelocRegions → ℕ → Region
@@ -59,6 +59,13 @@ pub record Pushed (r : RelocRegions) (new : Region) (q : RelocRegions) : Type 0 
 pub record HoldsRegions (r : RelocRegions) (xs : Rows IgvmInitializationHeader) : Type 0 where
   pub count : r .count ≤ xs .count
   pub same : (p : Region → Bool) → anyRegion p r ≡ any (regionPasses p) xs
+
+-- 24 and 25: a CcaPolicy by the architecture and the platforms
+unfoldable pub policyFault : Arch → Rows IgvmPlatformHeader → IgvmInitializationHeader → Fault
+policyFault arch platforms h =
+    refuse (wrongArch arch h) (fault 24 17)
+    (refuseBit (withoutCca platforms h)
+    noFault)
 
 -- the fault of a region whose header alone has the fault `own`, where `shares` and `overlaps` say what the regions before it tell
 unfoldable pub regionFault : Fault → Bool → Bool → Region → Fault

@@ -1,18 +1,22 @@
 // Initialization headers: refusals 16 to 29, header by header, and the record of regions.
 ghost use mathlib.Core.Path.{_≡_};
-ghost use mathlib.Core.Bool.{not};
+ghost use mathlib.Core.Bool.{true, not, cond, _&&_};
+ghost use mathlib.Core.Option.{none, some};
 ghost use Prim.Native.Nat.{ℕ, _+_, _<_, _≤_};
 ghost use Rattle.rows.specs.Rows.{Rows, before};
 ghost use Rattle.platform_header.specs.declared.IgvmPlatformHeader.{IgvmPlatformHeader};
 ghost use Rattle.initialization_header.specs.declared.IgvmInitializationHeader.{IgvmInitializationHeader};
 ghost use Rattle.igvm_defs.specs.Refusals.{noFault};
-ghost use Rattle.masks.specs.Masks.{individualMasks, firstMask};
+ghost use Rattle.igvm_defs.specs.Vtls.{vtlNumber};
+ghost use Rattle.masks.specs.Masks.{shares, individualMasks, firstMask};
+ghost use Rattle.addresses.specs.Addresses.{meets};
 ghost use Rattle.platforms.specs.Record.{HoldsPlatforms, lastTypeIsCca};
-ghost use Rattle.rules.specs.Regions.{tablesShare, overlap, tableHolds};
+ghost use Rattle.rules.specs.Regions.{regionOf};
 ghost use Rattle.rules.specs.Initializations.{validateAddresses, validateRegion, validateTable, validateInitialization, refuseBit};
-ghost use Rattle.initializations.specs.Record.{anyRegion, anyTablesShare, anyOverlap, anyTableHolds, Pushed, regionFault, HoldsRegions, InitializationStepped};
+ghost use Rattle.initializations.specs.Record.{anyTablesShare, anyOverlap, anyTableHolds, policyFault, regionFault, HoldsRegions, InitializationStepped};
 use igvm_defs::Arch;
 use igvm_defs::Fault;
+use igvm_defs::Vtl;
 use initialization_header::IgvmInitializationHeader;
 use platforms::Platforms;
 use rules::Region;
@@ -93,14 +97,12 @@ pub fn validate(h: IgvmInitializationHeader) -> Fault
             compatibility_mask: _,
             attributes_required_zeroes,
             attributes_required_ones,
-        } => {
-            igvm_defs::refuse(
-                masks::shares_u64(attributes_required_zeroes, attributes_required_ones),
-                16,
-                0,
-                Fault::NONE,
-            )
-        }
+        } => igvm_defs::refuse(
+            masks::shares_u64(attributes_required_zeroes, attributes_required_ones),
+            16,
+            0,
+            Fault::NONE,
+        ),
         IgvmInitializationHeader::RelocatableRegion {
             relocation_alignment,
             relocation_region_gpa,
@@ -108,15 +110,13 @@ pub fn validate(h: IgvmInitializationHeader) -> Fault
             minimum_relocation_gpa,
             maximum_relocation_gpa,
             ..
-        } => {
-            validate_region(
-                relocation_alignment,
-                relocation_region_gpa,
-                relocation_region_size,
-                minimum_relocation_gpa,
-                maximum_relocation_gpa,
-            )
-        }
+        } => validate_region(
+            relocation_alignment,
+            relocation_region_gpa,
+            relocation_region_size,
+            minimum_relocation_gpa,
+            maximum_relocation_gpa,
+        ),
         IgvmInitializationHeader::PageTableRelocationRegion {
             gpa,
             size,
@@ -144,13 +144,23 @@ fn any_tables_share<'a>(r: Region, masks: &'a [u32; 64], tables: &'a [bool; 64],
     requires { ⌜ n ≤ 64 ⌝ }
     ensures { λ s. ⌜ s ≡ anyTablesShare r (now (masks .entry)) (now (tables .entry)) n ⌝ }
 {
+    if !r.page_table {
+        return false;
+    }
     let mut i = 0;
     let mut found = false;
     while i < n {
-        found = found | (r.page_table & tables[i] & masks::shares(r.mask, masks[i]));
+        found = found | (tables[i] & masks::shares(r.mask, masks[i]));
         i += 1;
     }
     found
+}
+
+// r shares a bit with the mask, and an address with the size bytes from gpa.
+fn overlaps(r: Region, mask: u32, gpa: u64, size: u64) -> bool
+    ensures { λ s. ⌜ s ≡ (shares (r .mask) mask && meets (r .gpa) (r .size) gpa size) ⌝ }
+{
+    masks::shares(r.mask, mask) & addresses::meets(r.gpa, r.size, gpa, size)
 }
 
 // Some of the first n regions shares a bit with r, and an address.
@@ -167,9 +177,7 @@ fn any_overlap<'a>(
     let mut i = 0;
     let mut found = false;
     while i < n {
-        found = found
-            | (masks::shares(r.mask, masks[i])
-                & addresses::meets(r.gpa, r.size, gpas[i], sizes[i]));
+        found = found | overlaps(r, masks[i], gpas[i], sizes[i]);
         i += 1;
     }
     found
@@ -200,6 +208,71 @@ pub fn any_table_holds<'a>(
     found
 }
 
+// A region of either kind, where a header has one.
+struct FoundRegion {
+    found: bool,
+    region: Region,
+}
+
+const NO_REGION: Region = Region {
+    mask: 0,
+    gpa: 0,
+    size: 0,
+    vp_index: 0,
+    vtl: 0,
+    page_table: false,
+};
+
+fn found_region(mask: u32, gpa: u64, size: u64, vp: u16, vtl: Vtl, table: bool) -> FoundRegion
+    ensures { λ r. ⌜ r ≡ record { found = true; region = record { mask = mask; gpa = gpa; size = size; «vp_index» = vp; vtl = vtlNumber vtl; «page_table» = table } } ⌝ }
+{
+    FoundRegion {
+        found: true,
+        region: Region {
+            mask: mask,
+            gpa: gpa,
+            size: size,
+            vp_index: vp,
+            vtl: vtl.code(),
+            page_table: table,
+        },
+    }
+}
+
+fn region_of(h: IgvmInitializationHeader) -> FoundRegion
+    ensures { λ r. ⌜ regionOf h ≡ cond (r .found) (some (r .region)) none ⌝ }
+{
+    match h {
+        IgvmInitializationHeader::RelocatableRegion {
+            compatibility_mask,
+            relocation_region_gpa,
+            relocation_region_size,
+            vp_index,
+            vtl,
+            ..
+        } => found_region(
+            compatibility_mask,
+            relocation_region_gpa,
+            relocation_region_size,
+            vp_index,
+            vtl,
+            false,
+        ),
+        IgvmInitializationHeader::PageTableRelocationRegion {
+            compatibility_mask,
+            gpa,
+            size,
+            vp_index,
+            vtl,
+            ..
+        } => found_region(compatibility_mask, gpa, size, vp_index, vtl, true),
+        _ => FoundRegion {
+            found: false,
+            region: NO_REGION,
+        },
+    }
+}
+
 // 26, 27, 28 and 29: a region whose header alone has the fault `own`, by what the regions before it tell.
 fn region_fault(own: Fault, shares: bool, overlaps: bool, r: Region) -> Fault
     ensures { λ f. ⌜ f ≡ regionFault own shares overlaps r ⌝ }
@@ -226,6 +299,16 @@ fn region_fault(own: Fault, shares: bool, overlaps: bool, r: Region) -> Fault
     )
 }
 
+// The fault of a row: that of its region where it has one, else its header's own.
+fn row_fault(found: bool, region: Fault, own: Fault) -> Fault
+    ensures { λ f. ⌜ f ≡ cond found region own ⌝ }
+{
+    if found {
+        return region;
+    }
+    own
+}
+
 impl RelocRegions {
     pub fn new() -> RelocRegions
         ensures { λ r. ⌜ r .count ≡ 0 ⌝ }
@@ -241,36 +324,8 @@ impl RelocRegions {
         }
     }
 
-    fn push(self, r: Region) -> RelocRegions
-        requires { ⌜ self .count < 64 ⌝ }
-        ensures { λ q. ⌜ Pushed self r q ⌝ }
-    {
-        let n = self.count;
-        let mut next = self;
-        next.mask[n] = r.mask;
-        next.gpa[n] = r.gpa;
-        next.size[n] = r.size;
-        next.vp_index[n] = r.vp_index;
-        next.vtl[n] = r.vtl;
-        next.page_table[n] = r.page_table;
-        next.count = n + 1;
-        next
-    }
-
-    // One region more, whose header alone has the fault `own`: the row's fault, and the record with the region.
-    fn region_step(self, own: Fault, r: Region) -> InitializationStep
-        requires { ⌜ self .count < 64 ⌝ }
-        ensures { λ s. ⌜ (s .fault ≡ regionFault own (anyRegion (tablesShare r) self) (anyRegion (overlap r) self) r) × Pushed self r (s .regions) ⌝ }
-    {
-        let n = self.count;
-        let shares = any_tables_share(r, &self.mask, &self.page_table, n);
-        let overlaps = any_overlap(r, &self.mask, &self.gpa, &self.size, n);
-        let fault = region_fault(own, shares, overlaps, r);
-        let regions = self.push(r);
-        InitializationStep { regions, fault }
-    }
-
-    // One row more: its fault, and the record with its region.
+    // One row more: its fault, and the record with its region, which is stored in any case and counted where there is one. Each branch that
+    // returns the record, and each local that holds it, would cost a copy of it.
     pub fn step(
         self,
         arch: Arch,
@@ -280,64 +335,23 @@ impl RelocRegions {
         requires { ⌜ (self .count < 64) × (platforms .count ≤ 16) ⌝ }
         ensures { λ r. ⌜ ((ps : Rows IgvmPlatformHeader) (xs : Rows IgvmInitializationHeader) (i : ℕ) → HoldsPlatforms platforms ps → h ≡ xs .row i → HoldsRegions self (before i xs) → InitializationStepped arch ps xs i (r .fault) (r .regions)) ⌝ }
     {
-        let own = validate(h);
-        match h {
-            IgvmInitializationHeader::GuestPolicy { .. } => InitializationStep {
-                regions: self,
-                fault: own,
-            },
-            IgvmInitializationHeader::CcaPolicy {
-                compatibility_mask,
-                ..
-            } => {
-                let later = igvm_defs::refuse(
-                    !arch.is_aarch64(),
-                    24,
-                    17,
-                    without_cca(platforms, compatibility_mask),
-                );
-                InitializationStep {
-                    regions: self,
-                    fault: igvm_defs::or_fault(own, later),
-                }
-            }
-            IgvmInitializationHeader::RelocatableRegion {
-                compatibility_mask,
-                relocation_region_gpa,
-                relocation_region_size,
-                vp_index,
-                vtl,
-                ..
-            } => {
-                let r = Region {
-                    mask: compatibility_mask,
-                    gpa: relocation_region_gpa,
-                    size: relocation_region_size,
-                    vp_index: vp_index,
-                    vtl: vtl.code(),
-                    page_table: false,
-                };
-                self.region_step(own, r)
-            }
-            IgvmInitializationHeader::PageTableRelocationRegion {
-                compatibility_mask,
-                gpa,
-                size,
-                vp_index,
-                vtl,
-                ..
-            } => {
-                let r = Region {
-                    mask: compatibility_mask,
-                    gpa: gpa,
-                    size: size,
-                    vp_index: vp_index,
-                    vtl: vtl.code(),
-                    page_table: true,
-                };
-                self.region_step(own, r)
-            }
-        }
+        let own = igvm_defs::or_fault(validate(h), policy_fault(arch, platforms, h));
+        let new = region_of(h);
+        let found = new.found;
+        let r = new.region;
+        let mut regions = self;
+        let n = regions.count;
+        let shares = any_tables_share(r, &regions.mask, &regions.page_table, n);
+        let overlaps = any_overlap(r, &regions.mask, &regions.gpa, &regions.size, n);
+        let fault = row_fault(found, region_fault(own, shares, overlaps, r), own);
+        regions.mask[n] = r.mask;
+        regions.gpa[n] = r.gpa;
+        regions.size[n] = r.size;
+        regions.vp_index[n] = r.vp_index;
+        regions.vtl[n] = r.vtl;
+        regions.page_table[n] = r.page_table;
+        regions.count = n + found as usize;
+        InitializationStep { regions, fault }
     }
 }
 
@@ -365,4 +379,23 @@ fn without_cca(platforms: Platforms, mask: u32) -> Fault
         i += 1;
     }
     Fault::NONE
+}
+
+// 24 and 25: a CcaPolicy by the architecture and the platforms.
+fn policy_fault(arch: Arch, platforms: Platforms, h: IgvmInitializationHeader) -> Fault
+    requires { ⌜ platforms .count ≤ 16 ⌝ }
+    ensures { λ r. ⌜ ((ps : Rows IgvmPlatformHeader) → HoldsPlatforms platforms ps → r ≡ policyFault arch ps h) ⌝ }
+{
+    match h {
+        IgvmInitializationHeader::CcaPolicy {
+            compatibility_mask,
+            ..
+        } => igvm_defs::refuse(
+            !arch.is_aarch64(),
+            24,
+            17,
+            without_cca(platforms, compatibility_mask),
+        ),
+        _ => Fault::NONE,
+    }
 }

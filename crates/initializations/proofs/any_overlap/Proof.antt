@@ -1,5 +1,4 @@
-use mathlib.Core.Bool.{Bool, _||_, _&&_}
-use mathlib.Core.Path.{_≡_, refl, ap₂}
+use mathlib.Core.Path.{_≡_, refl}
 use Prim.Native.Nat.{_-_, _≤_}
 use native.Mathlib.Omega.{arith}
 use borrow.Author.Needs.{needs}
@@ -19,29 +18,26 @@ loop-holds : tie.Need-loop-holds Inv-loop μ-loop
 unfolding anyBelow
 loop-holds c = (search needs, refl)
 
-mul-shares : tie.Need-mul-shares Inv-loop μ-loop
-mul-shares c = search needs
+mul-overlaps : tie.Need-mul-overlaps Inv-loop μ-loop
+mul-overlaps c = search needs
 
-element-copy-out-shares : tie.Need-element-copy-out-shares Inv-loop μ-loop
-element-copy-out-shares c = search needs
+element-copy-out-overlaps : tie.Need-element-copy-out-overlaps Inv-loop μ-loop
+element-copy-out-overlaps c = search needs
 
-shares-requires : tie.Need-shares-requires Inv-loop μ-loop
-shares-requires c κs = search needs
+mul-overlaps-2 : tie.Need-mul-overlaps-2 Inv-loop μ-loop
+mul-overlaps-2 c = search needs
 
-mul-meets : tie.Need-mul-meets Inv-loop μ-loop
-mul-meets c = search needs
+element-copy-out-overlaps-2 : tie.Need-element-copy-out-overlaps-2 Inv-loop μ-loop
+element-copy-out-overlaps-2 c = search needs
 
-element-copy-out-meets : tie.Need-element-copy-out-meets Inv-loop μ-loop
-element-copy-out-meets c = search needs
+mul-overlaps-3 : tie.Need-mul-overlaps-3 Inv-loop μ-loop
+mul-overlaps-3 c = search needs
 
-mul-meets-2 : tie.Need-mul-meets-2 Inv-loop μ-loop
-mul-meets-2 c = search needs
+element-copy-out-overlaps-3 : tie.Need-element-copy-out-overlaps-3 Inv-loop μ-loop
+element-copy-out-overlaps-3 c = search needs
 
-element-copy-out-meets-2 : tie.Need-element-copy-out-meets-2 Inv-loop μ-loop
-element-copy-out-meets-2 c = search needs
-
-meets-requires : tie.Need-meets-requires Inv-loop μ-loop
-meets-requires c κs = search needs
+overlaps-requires : tie.Need-overlaps-requires Inv-loop μ-loop
+overlaps-requires c κs = search needs
 
 add-i : tie.Need-add-i Inv-loop μ-loop
 add-i c = search needs
@@ -50,9 +46,7 @@ loop-less : tie.Need-loop-less Inv-loop μ-loop
 loop-less c = search needs
 
 loop-again : tie.Need-loop-again Inv-loop μ-loop
-loop-again c =
-    let l = c .before .before .before .before .before .before .loop in
-    (search needs, rw any-more (ap₂ (λ (x y : Bool). x || y) (l .inv .1) (ap₂ (λ (x y : Bool). x && y) (c .before .before .before .shares .ensures) (c .meets .ensures))))
+loop-again c = (search needs, rw (any-more, ← c .before .before .before .before .before .loop .inv .1, ← c .overlaps .ensures))
 
 returns : tie.Need-returns Inv-loop μ-loop
 returns c =
@@ -66,14 +60,13 @@ any-overlap-spec =
     Inv-loop
     μ-loop
     loop-holds
-    mul-shares
-    element-copy-out-shares
-    shares-requires
-    mul-meets
-    element-copy-out-meets
-    mul-meets-2
-    element-copy-out-meets-2
-    meets-requires
+    mul-overlaps
+    element-copy-out-overlaps
+    mul-overlaps-2
+    element-copy-out-overlaps-2
+    mul-overlaps-3
+    element-copy-out-overlaps-3
+    overlaps-requires
     add-i
     loop-less
     loop-again

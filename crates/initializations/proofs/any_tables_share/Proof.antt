@@ -1,9 +1,11 @@
-use mathlib.Core.Path.{_≡_, refl}
+use mathlib.Core.Bool.{Bool, _||_}
+use mathlib.Core.Path.{_≡_, refl, sym, ap₂}
 use Prim.Native.Nat.{_-_, _≤_}
 use native.Mathlib.Omega.{arith}
 use borrow.Author.Needs.{needs}
+use borrow.Author.Tests.{not-true, not-false}
 use Rattle.rows.specs.Below.{anyBelow}
-use Rattle.rows.proofs.BelowLaws.{any-more}
+use Rattle.rows.proofs.BelowLaws.{none-any, any-more}
 use Rattle.initializations.specs.Record.{anyTablesShare}
 use Rattle.initializations.proofs.any_tables_share.Statement.{statement}
 use Rattle.initializations.proofs.any_tables_share.Tie as tie
@@ -13,6 +15,9 @@ Inv-loop r masks tables n i₀ found₀ i found = (i ≤ n) × (found ≡ anyTab
 
 abbrev μ-loop : tie.MeasureT-loop
 μ-loop r masks tables n i₀ found₀ i found = n - i
+
+returns : tie.Need-returns Inv-loop μ-loop
+returns c = let a = c .before .before .args in sym (none-any (a .n) _ .1 (λ i l. rw (not-true (a .r .«page_table») (c .if1 .taken))))
 
 loop-holds : tie.Need-loop-holds Inv-loop μ-loop
 unfolding anyBelow
@@ -37,11 +42,14 @@ loop-less : tie.Need-loop-less Inv-loop μ-loop
 loop-less c = search needs
 
 loop-again : tie.Need-loop-again Inv-loop μ-loop
-loop-again c = (search needs, rw any-more (cc))
+loop-again c =
+    let e = c .before .before .before .before .before in
+    let is-table = not-false (e .before .before .args .r .«page_table») (e .if1 .left) in
+    (search needs, rw any-more (ap₂ (λ (x y : Bool). x || y) (c .before .before .before .before .loop .inv .1) (rw is-table (cc))))
 
-returns : tie.Need-returns Inv-loop μ-loop
-returns c =
-    let e : c .before .loop .i ≡ c .before .before .args .n = omega arith in
+returns-2 : tie.Need-returns-2 Inv-loop μ-loop
+returns-2 c =
+    let e : c .before .loop .i ≡ c .before .before .before .before .args .n = omega arith in
     rw e at (c .before .loop .inv .1)
 
 pub any-tables-share-spec : {M : Type 1} → statement M
@@ -50,6 +58,7 @@ any-tables-share-spec =
     (tie.spec
     Inv-loop
     μ-loop
+    returns
     loop-holds
     element-copy-out-found
     mul-shares
@@ -58,4 +67,4 @@ any-tables-share-spec =
     add-i
     loop-less
     loop-again
-    returns)
+    returns-2)

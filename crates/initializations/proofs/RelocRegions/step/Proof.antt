@@ -1,125 +1,146 @@
-use mathlib.Core.Path.{_≡_, sym, _∙_}
-use mathlib.Core.Option.{some}
-use Prim.Native.Nat.{ℕ}
+use mathlib.Core.Path.{_≡_, _∙_}
+use mathlib.Core.Bool.{Bool, true, false, cond}
+use mathlib.Core.Option.{none, some}
+use Prim.Native.Nat.{ℕ, _≤_}
+use native.Mathlib.Omega.{arith}
+use mir.Val.{boolByte}
 use Rattle.rows.specs.Rows.{Rows, before}
 use Rattle.igvm_defs.specs.declared.Arch.{Arch}
 use Rattle.igvm_defs.specs.declared.Fault.{Fault}
+use Rattle.igvm_defs.specs.Refusals.{orFault}
 use Rattle.platform_header.specs.declared.IgvmPlatformHeader.{IgvmPlatformHeader}
 use Rattle.initialization_header.specs.declared.IgvmInitializationHeader.{IgvmInitializationHeader}
 use Rattle.rules.specs.declared.Region.{Region}
 use Rattle.initializations.specs.declared.RelocRegions.{RelocRegions}
-use Rattle.initializations.specs.declared.InitializationStep.{InitializationStep}
 use Rattle.rules.specs.Regions.{regionOf, tablesShare, overlap}
-use Rattle.rules.specs.Initializations.{validateInitialization}
-use Rattle.initializations.specs.Record.{anyRegion, regionFault, Pushed, HoldsRegions, InitializationStepped}
-use Rattle.initializations.proofs.FaultLaws.{guest-policy-fault, cca-policy-fault, region-fault, holds-bit}
-use Rattle.initializations.proofs.RecordLaws.{holds-pushed, holds-kept}
+use Rattle.rules.specs.Initializations.{validateInitialization, initializationFault}
+use Rattle.initializations.specs.Record.{anyTablesShare, anyOverlap, policyFault, regionFault, HoldsRegions}
+use Rattle.initializations.proofs.FaultLaws.{row-fault}
+use Rattle.initializations.proofs.RecordLaws.{Lengths, holds-stored}
 use borrow.Author.Needs.{needs}
 use Rattle.initializations.proofs.RelocRegions.step.Statement.{statement}
 use Rattle.initializations.proofs.RelocRegions.step.Tie as tie
 
--- a row with a region
-stepped : (arch : Arch) (ps : Rows IgvmPlatformHeader) (xs : Rows IgvmInitializationHeader) (i : ℕ) (h : IgvmInitializationHeader) (own : Fault)
-    (r : RelocRegions) (new : Region) (s : InitializationStep) → HoldsRegions r (before i xs) → h ≡ xs .row i → own ≡ validateInitialization h
-    → (s .fault ≡ regionFault own (anyRegion (tablesShare new) r) (anyRegion (overlap new) r) new) × Pushed r new (s .regions) → regionOf h ≡ some new
-    → InitializationStepped arch ps xs i (s .fault) (s .regions)
-stepped arch ps xs i h own r new s held e alone (told, pushed) f =
-    record {
-      told = rw (← e, region-fault arch ps (before i xs) h new f, ← alone, ← held .same (tablesShare new), ← held .same (overlap new)) told;
-      next = holds-pushed r xs i new (s .regions) held (rw (← e) f) pushed;
-    }
+one-at-most : (b : Bool) → boolByte b ≤ 1
+one-at-most true = omega arith
+one-at-most false = omega arith
+
+lengths : (c : tie.Start) → Lengths (c .args .self)
+lengths c = search needs
+
+-- the record's tests give the fault of the row
+told-by : (arch : Arch) (ps : Rows IgvmPlatformHeader) (xs : Rows IgvmInitializationHeader) (i : ℕ) (h : IgvmInitializationHeader) (r : RelocRegions)
+    (own region fault : Fault) (found : Bool) (new : Region) (shares overlaps : Bool) → HoldsRegions r (before i xs) → h ≡ xs .row i
+    → own ≡ orFault (validateInitialization h) (policyFault arch ps h) → regionOf h ≡ cond found (some new) none
+    → shares ≡ anyTablesShare new (r .mask) (r .«page_table») (r .count) → overlaps ≡ anyOverlap new (r .mask) (r .gpa) (r .size) (r .count)
+    → region ≡ regionFault own shares overlaps new → fault ≡ cond found region own → fault ≡ initializationFault arch ps (before i xs) (xs .row i)
+unfolding tablesShare overlap
+told-by arch ps xs i h r own region fault found new shares overlaps held e o f s v g told =
+    told ∙ rw (← e, row-fault arch ps (before i xs) h found new f, g, o, s, v, ← held .same (tablesShare new), ← held .same (overlap new))
 
 validate-requires : tie.Need-validate-requires
 validate-requires c κs = search needs
 
-enum-told : tie.Need-enum-told
-enum-told c = search needs
-
-enum-known-h : tie.Need-enum-known-h
-enum-known-h c = search needs
-
-is-aarch64-requires : tie.Need-is-aarch64-requires
-is-aarch64-requires c κs = search needs
-
-without-cca-requires : tie.Need-without-cca-requires
-without-cca-requires c κs = search needs
-
-refuse-requires : tie.Need-refuse-requires
-refuse-requires c κs = search needs
+policy-fault-requires : tie.Need-policy-fault-requires
+policy-fault-requires c κs = search needs
 
 or-fault-requires : tie.Need-or-fault-requires
 or-fault-requires c κs = search needs
 
-enum-known-h-2 : tie.Need-enum-known-h-2
-enum-known-h-2 c = search needs
+region-of-requires : tie.Need-region-of-requires
+region-of-requires c κs = search needs
 
-code-requires : tie.Need-code-requires
-code-requires c κs = search needs
+any-tables-share-requires : tie.Need-any-tables-share-requires
+any-tables-share-requires c κs = search needs
 
-region-step-requires : tie.Need-region-step-requires
-region-step-requires c κs = search needs
+any-overlap-requires : tie.Need-any-overlap-requires
+any-overlap-requires c κs = search needs
 
-enum-known-h-3 : tie.Need-enum-known-h-3
-enum-known-h-3 c = search needs
+region-fault-requires : tie.Need-region-fault-requires
+region-fault-requires c κs = search needs
 
-code-requires-2 : tie.Need-code-requires-2
-code-requires-2 c κs = search needs
+row-fault-requires : tie.Need-row-fault-requires
+row-fault-requires c κs = search needs
 
-region-step-requires-2 : tie.Need-region-step-requires-2
-region-step-requires-2 c κs = search needs
+mul-regions : tie.Need-mul-regions
+mul-regions c = search needs
+
+element-write-regions : tie.Need-element-write-regions
+element-write-regions c = search needs
+
+mul-regions-2 : tie.Need-mul-regions-2
+mul-regions-2 c = search needs
+
+element-write-regions-2 : tie.Need-element-write-regions-2
+element-write-regions-2 c = search needs
+
+mul-regions-3 : tie.Need-mul-regions-3
+mul-regions-3 c = search needs
+
+element-write-regions-3 : tie.Need-element-write-regions-3
+element-write-regions-3 c = search needs
+
+mul-regions-4 : tie.Need-mul-regions-4
+mul-regions-4 c = search needs
+
+element-write-regions-4 : tie.Need-element-write-regions-4
+element-write-regions-4 c = search needs
+
+element-write-regions-5 : tie.Need-element-write-regions-5
+element-write-regions-5 c = search needs
+
+element-write-regions-6 : tie.Need-element-write-regions-6
+element-write-regions-6 c = search needs
+
+cast-regions : tie.Need-cast-regions
+cast-regions c = search needs
+
+add-regions : tie.Need-add-regions
+add-regions c =
+    let n = c .before .before .before .before .before .before .before .before .before .before .before .before in
+    let l = one-at-most (n .region-of .result .found) in
+    omega arith
 
 returns : tie.Need-returns
 returns c ps xs i hp e held =
-    let a = c .before .before .before .args in
-    let g = c .enum-told .given .1 in
-    record {
-      told = rw (← e, g) (rw g at (c .before .before .validate .ensures) ∙ sym (guest-policy-fault (a .arch) ps (before i xs) _ _));
-      next = holds-kept (a .self) xs i held (rw (← e, g));
-    }
-
-returns-2 : tie.Need-returns-2
-returns-2 c ps xs i hp e held =
-    let a = c .before .before .before .before .before .before .before .before .args in
-    let g = c .before .before .before .before .before .h .given in
+    let s = c .before .before .before .before .before .before .before in
+    let n = s .before .before .before .before .before in
+    let v = n .before .before .before in
+    let a = v .before .args in
+    let new = n .region-of .result in
+    let own : n .before .or-fault .result ≡ orFault (validateInitialization (a .h)) (policyFault (a .arch) ps (a .h)) =
+    rw (← v .validate .ensures, ← n .before .before .policy-fault .ensures ps hp) (n .before .or-fault .ensures) in
     record {
       told =
-          rw (← e, g .1, cca-policy-fault, ← holds-bit (a .platforms) ps (g .0 .0) hp)
-          (cc (c .or-fault .ensures, c .before .refuse .ensures, c .before .before .without-cca .ensures, c .before .before .before .is-aarch64 .ensures, c .before .before .before .before .before .before .before .validate .ensures, g .1));
-      next = holds-kept (a .self) xs i held (rw (← e, g .1));
+          told-by (a .arch) ps xs i (a .h) (a .self) _ _ _ (new .found) (new .region) _ _ held e own (n .region-of .ensures) (s .any-tables-share .ensures)
+          (c .before .before .any-overlap .ensures) (c .before .region-fault .ensures) (c .row-fault .ensures);
+      next =
+          holds-stored (a .self) (new .region) (search needs) (lengths (v .before)) xs i (new .found) held
+          (rw (← e) (n .region-of .ensures));
     }
-
-returns-3 : tie.Need-returns-3
-returns-3 c ps xs i hp e held =
-    let v = c .before .before .before .before .before in
-    let a = v .before .args in
-    stepped (a .arch) ps xs i (a .h) (v .validate .result) (a .self) _ (c .region-step .result) held e (v .validate .ensures) (c .region-step .ensures)
-    (rw (c .before .before .before .h2 .given .1, c .before .code .ensures .0))
-
-returns-4 : tie.Need-returns-4
-returns-4 c ps xs i hp e held =
-    let v = c .before .before .before .before .before in
-    let a = v .before .args in
-    stepped (a .arch) ps xs i (a .h) (v .validate .result) (a .self) _ (c .region-step2 .result) held e (v .validate .ensures) (c .region-step2 .ensures)
-    (rw (c .before .before .before .h3 .given .1, c .before .code2 .ensures .0))
 
 pub step-spec : {M : Type 1} → statement M
 step-spec =
     tie.close
     (tie.spec
     validate-requires
-    enum-told
-    enum-known-h
-    is-aarch64-requires
-    without-cca-requires
-    refuse-requires
+    policy-fault-requires
     or-fault-requires
-    enum-known-h-2
-    code-requires
-    region-step-requires
-    enum-known-h-3
-    code-requires-2
-    region-step-requires-2
-    returns
-    returns-2
-    returns-3
-    returns-4)
+    region-of-requires
+    any-tables-share-requires
+    any-overlap-requires
+    region-fault-requires
+    row-fault-requires
+    mul-regions
+    element-write-regions
+    mul-regions-2
+    element-write-regions-2
+    mul-regions-3
+    element-write-regions-3
+    mul-regions-4
+    element-write-regions-4
+    element-write-regions-5
+    element-write-regions-6
+    cast-regions
+    add-regions
+    returns)
