@@ -16,12 +16,17 @@ use Rattle.initialization_header.specs.declared.IgvmInitializationHeader.{IgvmI
 use Rattle.rules.specs.declared.Region.{Region}
 use Rattle.initializations.specs.declared.RelocRegions.{RelocRegions}
 use Rattle.rules.specs.Regions.{regionOf, regionPasses}
-use Rattle.initializations.specs.Record.{entry, anyRegion, Pushed, HoldsRegions}
+use Rattle.initializations.specs.Record.{entry, anyRegion, HoldsRegions}
 
 -- no region, and no row
 pub holds-none : (r : RelocRegions) (xs : Rows IgvmInitializationHeader) → r .count ≡ 0 → HoldsRegions r (before 0 xs)
 unfolding anyBelow
 holds-none r xs e = record { count = omega arith; same = λ p. rw e }
+
+-- the record q is the record r with one region more, in whatever order
+record Pushed (r : RelocRegions) (new : Region) (q : RelocRegions) : Type 0 where
+  count : q .count ≡ r .count + 1
+  same : (p : Region → Bool) → anyRegion p q ≡ (anyRegion p r || p new)
 
 -- a row with a region
 holds-pushed : (r : RelocRegions) (xs : Rows IgvmInitializationHeader) (i : ℕ) (new : Region) (q : RelocRegions)
@@ -41,15 +46,6 @@ holds-kept r xs i q held e count same =
     record {
       count = let l = held .count in omega arith;
       same = λ p. same p ∙ held .same p ∙ rw (any-more i (λ j. regionPasses p (xs .row j)), e, or-false);
-    }
-
--- the record looks at no row but those that it holds
-pub holds-same : (r : RelocRegions) (xs ys : Rows IgvmInitializationHeader) → xs .count ≡ ys .count → ((i : ℕ) → i < xs .count → xs .row i ≡ ys .row i)
-    → HoldsRegions r xs → HoldsRegions r ys
-holds-same r xs ys e same held =
-    record {
-      count = rw e at (held .count);
-      same = λ p. held .same p ∙ rw (← e) (any-same-tests (xs .count) (λ i. regionPasses p (xs .row i)) (λ i. regionPasses p (ys .row i)) (λ i l. ap (regionPasses p) (same i l)));
     }
 
 -- the arrays' lengths

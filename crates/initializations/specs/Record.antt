@@ -1,7 +1,7 @@
 -- The record of the regions read so far, and the rows that it stands for, in whatever order it keeps them.
 use Prim.Native.Nat.{ℕ, _+_, _≤_}
 use mathlib.Core.Path.{_≡_}
-use mathlib.Core.Bool.{Bool, false, _||_, _&&_}
+use mathlib.Core.Bool.{Bool, false, _&&_}
 use mathlib.Core.List.{List}
 use lib.Dec.{eqb}
 use lib.ListN.{getD}
@@ -49,11 +49,6 @@ anyOverlap r masks gpas sizes n = anyBelow n (λ i. shares (r .mask) (getD masks
 abbrev pub anyTableHolds : ℕ → ℕ → List ℕ → List ℕ → List ℕ → List Bool → ℕ → Bool
 anyTableHolds mask gpa masks gpas sizes tables n =
     anyBelow n (λ i. getD tables i false && shares (getD masks i 0) mask && contains (getD gpas i 0) (getD sizes i 0) gpa)
-
--- the record q is the record r with one region more, in whatever order
-pub record Pushed (r : RelocRegions) (new : Region) (q : RelocRegions) : Type 0 where
-  pub count : q .count ≡ r .count + 1
-  pub same : (p : Region → Bool) → anyRegion p q ≡ (anyRegion p r || p new)
 
 -- the record has no more regions than there are rows, and a test finds a region in it exactly where a row's region passes
 pub record HoldsRegions (r : RelocRegions) (xs : Rows IgvmInitializationHeader) : Type 0 where
