@@ -1,3 +1,1 @@
-pub mod FirstPasses
-pub mod DirectivePass
 pub mod VerdictLaws

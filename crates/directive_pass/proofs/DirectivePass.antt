@@ -14,7 +14,6 @@ use Rattle.rows.specs.Rows.{Rows, any, before}
 use Rattle.rows.proofs.BelowLaws.{none-any, any-more, any-same-tests}
 use Rattle.igvm_defs.specs.declared.Arch.{Arch}
 use Rattle.igvm_defs.specs.declared.Fault.{Fault}
-use Rattle.igvm_defs.specs.Revision.{archOf}
 use Rattle.igvm_defs.specs.Kinds.{kindOf, directiveList}
 use Rattle.igvm_defs.specs.Refusals.{fault, noFault, noRefusal, refuse, isFault, isRefusal, inRow}
 use Rattle.igvm_defs.proofs.RefusalLaws.{row-refusal, orElse-first, orElse-later, fault-stop, fault-end}
@@ -23,7 +22,7 @@ use Rattle.directive_header.specs.Fields.{areaOf}
 use Rattle.directive_header.specs.Directives.{directiveOf}
 use Rattle.directive_header.proofs.DirectiveLaws.{area-directive}
 use Rattle.sheet.specs.declared.Cursor.{Cursor}
-use Rattle.sheet.specs.Head.{limits, headOf, revisionOf}
+use Rattle.sheet.specs.Head.{limits, headOf}
 use Rattle.sheet.specs.Read.{Readable}
 use Rattle.sheet.specs.Table.{rowKind, bodyOf}
 use Rattle.sheet.specs.Walk.{cursorAt, AtRow}
@@ -34,11 +33,12 @@ use Rattle.rules.specs.Directives.{badArea, noContext}
 use Rattle.rules.specs.Verdict.{Headers, directiveFaults, noMatchingVpContext, directivesRefusal}
 use Rattle.rules.proofs.Acceptance.{directive-says}
 use Rattle.headers.specs.Headers.{sheetHeaders}
+use Rattle.headers.proofs.HeaderLaws.{sheet-counts}
 use Rattle.initializations.specs.declared.RelocRegions.{RelocRegions}
 use Rattle.initializations.specs.Record.{entry, anyRegion, HoldsRegions}
 use Rattle.directives.specs.Record.{HoldsContexts, lacksContext, DirectiveStepped, howOf, namesArea, areaNumber, firstBadArea}
 use Rattle.directives.proofs.DirectiveRecordLaws.{lacks-says, names-no-area, no-bad-area, bad-area-test}
-use Rattle.file.specs.Passes.{HoldsTables, AreasFilled}
+use Rattle.directive_pass.specs.Areas.{HoldsTables, AreasFilled}
 
 -- ---- the directive rows of a readable sheet
 
@@ -67,17 +67,6 @@ cursor-more s i = ap (cursorAt s) (omega arith)
 pub directive-header : (s : List ℕ) (i : ℕ) → directiveOf (rowKind s (firstDirective s + i)) (bodyOf s (firstDirective s + i)) ≡ sheetHeaders s .directives .row i
 unfolding sheetHeaders
 directive-header s i = refl
-
--- the architecture and the lists' lengths, as the head has them
-pub record SheetCounts (s : List ℕ) : Type 0 where
-  pub arch : archOf (revisionOf (headOf s)) ≡ sheetHeaders s .arch
-  pub platforms : sheetHeaders s .platforms .count ≡ headOf s .platforms
-  pub initializations : sheetHeaders s .initializations .count ≡ headOf s .initializations
-  pub directives : sheetHeaders s .directives .count ≡ headOf s .directives
-
-pub sheet-counts : (s : List ℕ) → SheetCounts s
-unfolding sheetHeaders
-sheet-counts s = record { arch = refl; platforms = refl; initializations = refl; directives = refl }
 
 -- where no row names an area, none is bad
 pub no-area-rows : (s : List ℕ) → Readable limits s → anyBelow (headOf s .directives) (λ i. namesArea (rowKind s (firstDirective s + i))) ≡ false

@@ -8,10 +8,10 @@ use Rattle.igvm_defs.specs.Refusals.{isFault}
 use Rattle.headers.specs.Headers.{sheetHeaders}
 use Rattle.initializations.specs.Record.{InitializationStepped}
 use Rattle.initializations.proofs.RecordLaws.{holds-none}
-use Rattle.file.proofs.DirectivePass.{sheet-counts}
-use Rattle.file.proofs.FirstPasses.{InitializationsReached, rows-first, initialization-known, initialization-small, initialization-room, initialization-stepped, initialization-next, initializations-stop, initializations-end}
-use Rattle.file.proofs.validate_initialization_headers.Statement.{statement}
-use Rattle.file.proofs.validate_initialization_headers.Tie as tie
+use Rattle.headers.proofs.HeaderLaws.{sheet-counts}
+use Rattle.passes.proofs.FirstPasses.{InitializationsReached, rows-first, initialization-known, initialization-small, initialization-room, initialization-stepped, initialization-next, initializations-stop, initializations-end}
+use Rattle.passes.proofs.validate_initialization_headers.Statement.{statement}
+use Rattle.passes.proofs.validate_initialization_headers.Tie as tie
 
 abbrev Inv-loop : tie.InvT-loop
 Inv-loop s platforms first n arch c₀ regions₀ i₀ c regions i = InitializationsReached s platforms first n arch c regions i

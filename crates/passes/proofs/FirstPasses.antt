@@ -33,8 +33,8 @@ use Rattle.platforms.specs.Record.{HoldsPlatforms, PlatformStepped}
 use Rattle.platforms.proofs.RecordLaws.{holds-count}
 use Rattle.initializations.specs.declared.RelocRegions.{RelocRegions}
 use Rattle.initializations.specs.Record.{HoldsRegions, InitializationStepped}
-use Rattle.file.specs.Passes.{PlatformsPassed, InitializationsPassed}
-use Rattle.file.proofs.DirectivePass.{sheet-counts}
+use Rattle.passes.specs.Passes.{PlatformsPassed, InitializationsPassed}
+use Rattle.headers.proofs.HeaderLaws.{sheet-counts}
 
 -- ---- any list
 

@@ -8,9 +8,9 @@ use denote.Ref.{now}
 use Rattle.sheet.proofs.Readable.{readable-bounds}
 use Rattle.headers.specs.Headers.{sheetHeaders}
 use Rattle.directives.proofs.DirectiveRecordLaws.{first-bad-area}
-use Rattle.file.proofs.DirectivePass.{no-area-rows}
-use Rattle.file.proofs.first_bad_area.Statement.{statement}
-use Rattle.file.proofs.first_bad_area.Tie as tie
+use Rattle.directive_pass.proofs.DirectivePass.{no-area-rows}
+use Rattle.directive_pass.proofs.first_bad_area.Statement.{statement}
+use Rattle.directive_pass.proofs.first_bad_area.Tie as tie
 
 -- the arrays have room for the rows
 room : (c : tie.Start) → c .args .head .directives ≤ 1024

@@ -8,10 +8,10 @@ use Rattle.igvm_defs.specs.Refusals.{isFault}
 use Rattle.headers.specs.Headers.{sheetHeaders}
 use Rattle.platforms.specs.Record.{PlatformStepped}
 use Rattle.sheet.proofs.Readable.{offset-first, readable-bounds}
-use Rattle.file.proofs.DirectivePass.{sheet-counts}
-use Rattle.file.proofs.FirstPasses.{PlatformsReached, rows-first, platform-known, platform-room, platform-stepped, platform-next, platforms-stop, platforms-end}
-use Rattle.file.proofs.validate_platform_headers.Statement.{statement}
-use Rattle.file.proofs.validate_platform_headers.Tie as tie
+use Rattle.headers.proofs.HeaderLaws.{sheet-counts}
+use Rattle.passes.proofs.FirstPasses.{PlatformsReached, rows-first, platform-known, platform-room, platform-stepped, platform-next, platforms-stop, platforms-end}
+use Rattle.passes.proofs.validate_platform_headers.Statement.{statement}
+use Rattle.passes.proofs.validate_platform_headers.Tie as tie
 
 abbrev Inv-loop : tie.InvT-loop
 Inv-loop s count arch c₀ platforms₀ i₀ c platforms i = PlatformsReached s count arch c platforms i

@@ -4,8 +4,8 @@ use mathlib.Core.List.{List, [], _∷_}
 use types.Run.{miss}
 use borrow.Author.Needs.{needs}
 use Rattle.rules.proofs.Acceptance.{inside-table}
-use Rattle.file.proofs.inside_table.Statement.{statement}
-use Rattle.file.proofs.inside_table.Tie as tie
+use Rattle.directive_pass.proofs.inside_table.Statement.{statement}
+use Rattle.directive_pass.proofs.inside_table.Tie as tie
 
 -- the variants but ParameterInsert
 abbrev others : List ℕ

@@ -14,10 +14,10 @@ use Rattle.headers.specs.Headers.{sheetHeaders}
 use Rattle.directive_header.proofs.DirectiveLaws.{area-directive}
 use Rattle.directives.specs.Record.{howOf, areaNumber}
 use Rattle.directives.proofs.DirectiveRecordLaws.{how-directive}
-use Rattle.file.specs.Passes.{AreasFilled}
-use Rattle.file.proofs.DirectivePass.{firstDirective, AtDirective, at-directive, cursor-first, cursor-more, directive-header, filled-none, filled-more}
-use Rattle.file.proofs.fill_areas.Statement.{statement}
-use Rattle.file.proofs.fill_areas.Tie as tie
+use Rattle.directive_pass.specs.Areas.{AreasFilled}
+use Rattle.directive_pass.proofs.DirectivePass.{firstDirective, AtDirective, at-directive, cursor-first, cursor-more, directive-header, filled-none, filled-more}
+use Rattle.directive_pass.proofs.fill_areas.Statement.{statement}
+use Rattle.directive_pass.proofs.fill_areas.Tie as tie
 
 abbrev Inv-loop : tie.InvT-loop
 Inv-loop s area₀ how₀ n first c₀ i₀ area how c i =

@@ -9,8 +9,8 @@ use Rattle.rows.proofs.BelowLaws.{any-below, any-more}
 use Rattle.rows.proofs.Bools.{or-both-false}
 use Rattle.sheet.specs.Table.{rowKind}
 use Rattle.directives.specs.Record.{namesArea}
-use Rattle.file.proofs.any_area.Statement.{statement}
-use Rattle.file.proofs.any_area.Tie as tie
+use Rattle.directive_pass.proofs.any_area.Statement.{statement}
+use Rattle.directive_pass.proofs.any_area.Tie as tie
 
 abbrev Inv-loop : tie.InvT-loop
 Inv-loop s first n i₀ i = (i ≤ n) × (anyBelow i (λ j. namesArea (rowKind s (first + j))) ≡ false)

@@ -6,11 +6,12 @@ use denote.Ref.{now}
 use Rattle.rows.specs.Below.{anyBelow}
 use Rattle.sheet.specs.declared.SheetHead.{SheetHead}
 use Rattle.headers.specs.Headers.{sheetHeaders}
+use Rattle.headers.proofs.HeaderLaws.{sheet-counts}
 use Rattle.directives.specs.Record.{DirectiveStepped}
 use Rattle.directives.proofs.DirectiveRecordLaws.{holds-no-contexts}
-use Rattle.file.proofs.DirectivePass.{Reached, cursor-first, sheet-counts, reached-bounds, regions-room, holds-tables, reached-row, reached-list, reached-header, reached-bad, reached-next, reached-stop, reached-end}
-use Rattle.file.proofs.validate_directive_headers.Statement.{statement}
-use Rattle.file.proofs.validate_directive_headers.Tie as tie
+use Rattle.directive_pass.proofs.DirectivePass.{Reached, cursor-first, reached-bounds, regions-room, holds-tables, reached-row, reached-list, reached-header, reached-bad, reached-next, reached-stop, reached-end}
+use Rattle.directive_pass.proofs.validate_directive_headers.Statement.{statement}
+use Rattle.directive_pass.proofs.validate_directive_headers.Tie as tie
 
 abbrev Inv-loop : tie.InvT-loop
 Inv-loop s regions first n arch held bad c₀ contexts₀ i₀ c contexts i = Reached s regions first n arch bad c contexts i

@@ -7,8 +7,8 @@ use Rattle.rows.specs.Below.{anyBelow}
 use Rattle.rows.proofs.BelowLaws.{any-more}
 use Rattle.initializations.specs.Record.{entry}
 use Rattle.directives.specs.Record.{lacksContext}
-use Rattle.file.proofs.no_matching_vp_context.Statement.{statement}
-use Rattle.file.proofs.no_matching_vp_context.Tie as tie
+use Rattle.directive_pass.proofs.no_matching_vp_context.Statement.{statement}
+use Rattle.directive_pass.proofs.no_matching_vp_context.Tie as tie
 
 abbrev Inv-loop : tie.InvT-loop
 Inv-loop contexts regions n i₀ found₀ i found = (i ≤ n) × (found ≡ anyBelow i (λ j. lacksContext contexts (entry regions j)))

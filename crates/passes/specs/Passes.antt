@@ -1,0 +1,23 @@
+-- What the passes over the platform and the initialization rows answer, of a readable sheet.
+use Prim.Native.Nat.{ℕ}
+use mathlib.Core.Bool.{false}
+use mathlib.Core.List.{List}
+use mathlib.Core.Path.{_≡_}
+use Rattle.igvm_defs.specs.declared.Refusal.{Refusal}
+use Rattle.igvm_defs.specs.Refusals.{isRefusal}
+use Rattle.headers.specs.Headers.{sheetHeaders}
+use Rattle.platforms.specs.declared.Platforms.{Platforms}
+use Rattle.platforms.specs.Record.{HoldsPlatforms}
+use Rattle.initializations.specs.declared.RelocRegions.{RelocRegions}
+use Rattle.initializations.specs.Record.{HoldsRegions}
+use Rattle.rules.specs.Verdict.{platformsRefusal, initializationsRefusal}
+
+-- the platform rows' refusal; where there is none, the record holds the platform rows
+pub record PlatformsPassed (s : List ℕ) (refusal : Refusal) (r : Platforms) : Type 0 where
+  pub told : refusal ≡ platformsRefusal (sheetHeaders s)
+  pub holds : isRefusal refusal ≡ false → HoldsPlatforms r (sheetHeaders s .platforms)
+
+-- the initialization rows' refusal; where there is none, the record holds their regions
+pub record InitializationsPassed (s : List ℕ) (refusal : Refusal) (r : RelocRegions) : Type 0 where
+  pub told : refusal ≡ initializationsRefusal (sheetHeaders s)
+  pub holds : isRefusal refusal ≡ false → HoldsRegions r (sheetHeaders s .initializations)

@@ -1,0 +1,86 @@
+// The passes over the platform and the initialization rows of a readable sheet: refusals 8 to 29, and the records that the later passes need.
+ghost use mathlib.Core.Path.{_≡_};
+ghost use Rattle.sheet.specs.Head.{limits, headOf};
+ghost use Rattle.sheet.specs.Read.{Readable};
+ghost use Rattle.headers.specs.Headers.{sheetHeaders};
+ghost use Rattle.platforms.specs.Record.{HoldsPlatforms};
+ghost use Rattle.passes.specs.Passes.{PlatformsPassed, InitializationsPassed};
+use igvm_defs::Fault;
+use igvm_defs::Refusal;
+use initializations::RelocRegions;
+use platforms::Platforms;
+use sheet::Cursor;
+use sheet::SheetHead;
+
+pub struct PlatformsPass {
+    pub refusal: Refusal,
+    pub platforms: Platforms,
+}
+
+// 8 to 14 of each platform row, then 15.
+pub fn validate_platform_headers(s: &[u8], head: SheetHead) -> PlatformsPass
+    requires { ⌜ Readable limits (now s) × (head ≡ headOf (now s)) ⌝ }
+    ensures { λ r. ⌜ PlatformsPassed (now (s .entry)) (r .refusal) (r .platforms) ⌝ }
+{
+    let count = head.platforms as usize;
+    let arch = head.revision().arch();
+    let mut c = Cursor::new(head.rows());
+    let mut platforms = Platforms::new();
+    let mut i = 0;
+    while i < count {
+        let step = platforms.step(arch, headers::platform_at(s, c));
+        let fault = step.fault;
+        let next = step.platforms;
+        platforms = next;
+        if fault.is_fault() {
+            return PlatformsPass {
+                refusal: fault.in_row((i + 1) as u64),
+                platforms,
+            };
+        }
+        c = c.next(s);
+        i += 1;
+    }
+    let refusal = igvm_defs::refuse(count == 0, 15, 0, Fault::NONE).in_row(0);
+    PlatformsPass { refusal, platforms }
+}
+
+pub struct InitializationsPass {
+    pub refusal: Refusal,
+    pub regions: RelocRegions,
+}
+
+// 16 to 29 of each initialization row.
+pub fn validate_initialization_headers(
+    s: &[u8],
+    head: SheetHead,
+    platforms: Platforms,
+) -> InitializationsPass
+    requires { ⌜ Readable limits (now s) × (head ≡ headOf (now s)) × HoldsPlatforms platforms (sheetHeaders (now s) .platforms) ⌝ }
+    ensures { λ r. ⌜ InitializationsPassed (now (s .entry)) (r .refusal) (r .regions) ⌝ }
+{
+    let first = head.platforms as usize;
+    let n = head.initializations as usize;
+    let arch = head.revision().arch();
+    let mut c = sheet::cursor_at(s, first);
+    let mut regions = RelocRegions::new();
+    let mut i = 0;
+    while i < n {
+        let step = regions.step(arch, platforms, headers::initialization_at(s, c));
+        let fault = step.fault;
+        let next = step.regions;
+        regions = next;
+        if fault.is_fault() {
+            return InitializationsPass {
+                refusal: fault.in_row((first + i + 1) as u64),
+                regions,
+            };
+        }
+        c = c.next(s);
+        i += 1;
+    }
+    InitializationsPass {
+        refusal: Refusal::NONE,
+        regions,
+    }
+}
