@@ -1,6 +1,7 @@
 -- Laws of the contexts' masks, and of the area rule over numbers.
 -- Assumes nothing.
 use Prim.Native.Nat.{ℕ, zero, suc, _+_, _≤_, _<_}
+use native.Mathlib.Omega.{arith}
 use mathlib.Core.Path.{_≡_, refl, sym, ap, _∙_}
 use mathlib.Core.Bool.{Bool, true, false, cond, _&&_, _||_, or-false}
 use mathlib.Core.List.{List, [], _∷_}
@@ -56,6 +57,20 @@ context-set contexts v mask l level bits = go (eqb v level) refl
     go false e =
         rw (getD-set-other contexts v level new 0 (λ q. eqb-false v level e (sym q)))
         (sym (or-false (shares (getD contexts level 0) bits)))
+
+three : (xs : List ℕ) → length xs ≡ 3 → xs ≡ (getD xs 0 0 ∷ getD xs 1 0 ∷ getD xs 2 0 ∷ [])
+three [] e = absurd (omega arith)
+three (a ∷ []) e = absurd (omega arith)
+three (a ∷ b ∷ []) e = absurd (omega arith)
+three (a ∷ b ∷ c ∷ []) e = refl
+three (a ∷ b ∷ c ∷ d ∷ xs) e = absurd (omega arith)
+
+-- the same, item by item
+pub context-items : (xs : List ℕ) → length xs ≡ 3 → (v mask : ℕ) → v < 3 → (level bits : ℕ)
+    → shares (getD (set (getD xs 0 0 ∷ getD xs 1 0 ∷ getD xs 2 0 ∷ []) v (bitOr (getD xs v 0) mask)) level 0) bits
+    ≡ (shares (getD xs level 0) bits || (eqb v level && shares mask bits))
+context-items xs n v mask l level bits =
+    ap (λ (ys : List ℕ). shares (getD (set ys v (bitOr (getD xs v 0) mask)) level 0) bits) (sym (three xs n)) ∙ context-set xs v mask (omega arith) level bits
 
 -- masks that share a bit where those of the rows before i do, or where row i's context does
 pub holds-next : (contexts next : List ℕ) (xs : Rows IgvmDirectiveHeader) (i : ℕ)

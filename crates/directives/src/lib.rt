@@ -130,10 +130,11 @@ fn arch_fault(arch: Arch, h: IgvmDirectiveHeader, later: Fault) -> Fault
 fn with_context(contexts: [u32; 3], vtl: Vtl, mask: u32) -> [u32; 3]
     ensures { λ r. ⌜ ((level bits : ℕ) → shares (getD r level 0) bits ≡ (shares (getD contexts level 0) bits || (eqb (vtlNumber vtl) level && shares mask bits))) ⌝ }
 {
-    let v = vtl.code() as usize;
-    let mut next = contexts;
-    next[v] = next[v] | mask;
-    next
+    match vtl {
+        Vtl::Vtl0 => [contexts[0] | mask, contexts[1], contexts[2]],
+        Vtl::Vtl1 => [contexts[0], contexts[1] | mask, contexts[2]],
+        Vtl::Vtl2 => [contexts[0], contexts[1], contexts[2] | mask],
+    }
 }
 
 fn contexts_after(contexts: [u32; 3], h: IgvmDirectiveHeader) -> [u32; 3]
