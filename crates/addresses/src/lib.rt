@@ -50,7 +50,10 @@ pub fn contains(base: u64, size: u64, gpa: u64) -> bool
 pub fn meets(base: u64, size: u64, base2: u64, size2: u64) -> bool
     ensures { λ r. ⌜ r ≡ meets base size base2 size2 ⌝ }
 {
-    before_end(base, base2, size2) & before_end(base2, base, size)
+    if base2 < base {
+        return base - base2 < size2;
+    }
+    before_end(base, base2, size2) & (base2 - base < size)
 }
 
 pub fn ends_beyond(base: u64, size: u64) -> bool

@@ -1,17 +1,34 @@
-use Rattle.addresses.specs.Addresses.{meets}
+use Prim.Native.Nat.{_+_, _-_}
+use native.Mathlib.Omega.{arith}
+use mathlib.Core.Bool.{Bool, _&&_, and-true}
+use mathlib.Core.Path.{ap₂}
 use borrow.Author.Needs.{needs}
+use borrow.Author.Tests.{lt-ltb}
+use Rattle.rows.proofs.Bools.{ltb-same}
+use Rattle.addresses.specs.Addresses.{meets}
 use Rattle.addresses.proofs.meets.Statement.{statement}
 use Rattle.addresses.proofs.meets.Tie as tie
+
+sub-result : tie.Need-sub-result
+sub-result c = search needs
+
+returns : tie.Need-returns
+unfolding meets
+returns c =
+    let a = c .before .args in
+    let first = ltb-same (a .base - a .base2) (a .size2) (a .base) (a .base2 + a .size2) (λ h. omega arith) (λ h. omega arith) in
+    let second = lt-ltb (a .base2) (a .base + a .size) (omega arith) in
+    rw (second, and-true) first
 
 before-end-requires : tie.Need-before-end-requires
 before-end-requires c κs = search needs
 
-before-end-requires-2 : tie.Need-before-end-requires-2
-before-end-requires-2 c κs = search needs
-
-returns : tie.Need-returns
+returns-2 : tie.Need-returns-2
 unfolding meets
-returns c = cc
+returns-2 c =
+    let a = c .before .before .args in
+    let second = ltb-same (a .base2 - a .base) (a .size) (a .base2) (a .base + a .size) (λ h. omega arith) (λ h. omega arith) in
+    ap₂ (λ (x y : Bool). x && y) (c .before-end .ensures) second
 
 pub meets-spec : {M : Type 1} → statement M
-meets-spec = tie.close (tie.spec before-end-requires before-end-requires-2 returns)
+meets-spec = tie.close (tie.spec sub-result returns before-end-requires returns-2)
