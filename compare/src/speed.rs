@@ -150,7 +150,7 @@ impl Case {
 // ---- the images
 
 fn cases() -> Vec<Case> {
-    let mut cases = vec![Case::new("b".into(), &b(), false)];
+    let mut cases = vec![Case::new("b".into(), &b(), false), Case::new("largest".into(), &largest(), false)];
     let mut add =
         |name: &str, rows: u64, image: Image, relocations: bool| cases.push(Case::new(format!("{name}-{rows}"), &image, relocations));
     for rows in [8, 16, 32, 64] {
@@ -196,6 +196,14 @@ fn with_table(rows: u64) -> Image {
 /// Pages of so many bytes.
 fn pages(rows: u64, bytes: usize) -> Image {
     image(vec![], (0..rows).map(|row| Row::new(32, &[0x1000 * row, 1, 0, 0]).with_tail(&vec![7; bytes])).collect())
+}
+
+/// As many rows of each list as can be accepted: the six platform types of X64, 64 regions, a context and 1,023 pages.
+fn largest() -> Image {
+    let mut image = initializations(64);
+    image.lists[0] = (0..6).map(|kind| Row::new(1, &[1 << kind, 0, kind, 1, 0])).collect();
+    image.lists[2].append(&mut pages(1023, 0).lists[2]);
+    image
 }
 
 /// A quarter of the rows are areas, then each is used twice, then each is inserted. Area n has the index n times `step`.
