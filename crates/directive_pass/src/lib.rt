@@ -1,24 +1,25 @@
 // The pass over the directive rows of a readable sheet: refusals 21, 22, 24 and 30 to 34.
 ghost use mathlib.Core.Path.{_≡_};
-ghost use Prim.Native.Nat.{_+_, _*_, _≤_};
+ghost use Prim.Native.Nat.{_≤_};
 ghost use lib.ListN.{length};
-ghost use Rattle.sheet.specs.Head.{limits, headOf};
+ghost use Rattle.sheet.specs.Head.{limits, headOf, rowCount};
 ghost use Rattle.sheet.specs.Read.{Readable};
-ghost use Rattle.sheet.specs.Table.{rowKind};
+ghost use Rattle.sheet.specs.Walk.{cursorAt, AtRow};
 ghost use Rattle.headers.specs.Headers.{sheetHeaders};
 ghost use Rattle.initialization_header.specs.declared.IgvmInitializationHeader.{IgvmInitializationHeader};
-ghost use Rattle.rows.specs.Below.{anyBelow};
 ghost use Rattle.rows.specs.Rows.{Rows};
 ghost use Rattle.rules.specs.Directives.{insideTable};
 ghost use Rattle.rules.specs.Verdict.{directivesRefusal};
 ghost use Rattle.initializations.specs.Record.{anyRegion, HoldsRegions};
-ghost use Rattle.directives.specs.Record.{lacksContext, namesArea, firstBadArea};
-ghost use Rattle.directive_pass.specs.Areas.{HoldsTables, AreasFilled};
+ghost use Rattle.directives.specs.Record.{lacksContext, firstBadArea};
+ghost use Rattle.directive_pass.specs.Areas.{HoldsTables, AreasFilled, BadAreaBy};
+ghost use Rattle.directive_pass.specs.Pages.{firstDirective, goodPage, PagesPassed};
 use directive_header::IgvmDirectiveHeader;
 use igvm_defs::Fault;
 use igvm_defs::Refusal;
 use initializations::RelocRegions;
 use rules::Region;
+use sheet::Cursor;
 use sheet::SheetHead;
 
 // How each directive row names an area, and which.
@@ -39,35 +40,31 @@ fn fill_areas(s: &[u8], head: SheetHead, area: &mut [u32; 1024], how: &mut [u8; 
     }
 }
 
-// Whether some of n rows from `first` on names an area.
-fn any_area(s: &[u8], first: usize, n: usize) -> bool
-    requires { ⌜ (16 + 8 * (first + n) ≤ length (now s)) × (first + n ≤ 196605) ⌝ }
-    ensures { λ r. ⌜ r ≡ anyBelow n (λ i. namesArea (rowKind (now (s .entry)) (first + i))) ⌝ }
-{
-    let mut i = 0;
-    while i < n {
-        if directives::names_area(sheet::kind_at(s, first + i)) {
-            return true;
-        }
-        i += 1;
-    }
-    false
-}
-
 // The first directive row, from 0, whose area is bad by the rows before it, or the number of rows.
 fn first_bad_area(s: &[u8], head: SheetHead) -> usize
     requires { ⌜ Readable limits (now s) × (head ≡ headOf (now s)) ⌝ }
     ensures { λ r. ⌜ r ≡ firstBadArea (sheetHeaders (now (s .entry)) .directives) ⌝ }
 {
-    let first = (head.platforms as usize) + (head.initializations as usize);
     let n = head.directives as usize;
-    if !any_area(s, first, n) {
-        return n;
-    }
     let mut area: [u32; 1024] = [0; 1024];
     let mut how: [u8; 1024] = [0; 1024];
     fill_areas(s, head, &mut area, &mut how);
     areas::first_bad(&area[..n], &how[..n])
+}
+
+// What is known of the first bad area before the row at the cursor: `bad`, and, once a row names an area, that row. A number past the rows stands for nothing.
+fn bad_area_by(s: &[u8], head: SheetHead, c: Cursor, bad: usize) -> usize
+    requires { ⌜ Readable limits (now s) × (head ≡ headOf (now s)) × AtRow (now s) c ⌝ }
+    requires { ⌜ (bad ≤ head .directives → bad ≡ firstBadArea (sheetHeaders (now s) .directives)) ⌝ }
+    ensures { λ r. ⌜ BadAreaBy (now (s .entry)) (c .row) r ⌝ }
+{
+    if bad <= head.directives as usize {
+        return bad;
+    }
+    if !directives::names_area(c.kind(s)) {
+        return bad;
+    }
+    first_bad_area(s, head)
 }
 
 // 34: some region has a VP index other than 0, or no context.
@@ -119,6 +116,35 @@ fn inside_table<'a>(
     }
 }
 
+// Whether the row at the cursor is a page of data without a fault. Most rows are. The tests stand here once more, without a header, so that the
+// header of any other row is still made in one place only.
+fn is_good_page(s: &[u8], c: Cursor) -> bool
+    requires { ⌜ AtRow (now s) c ⌝ }
+    ensures { λ r. ⌜ r ≡ goodPage (now (s .entry)) (c .row) ⌝ }
+{
+    if c.kind(s) != 32 {
+        return false;
+    }
+    let body = c.body(s);
+    (body.len() <= 4114) & addresses::on_page(le::u64_at(body, 0)) & (le::u16_at(body, 16) <= 3)
+}
+
+// The first row from the cursor on, before row `end`, that is no page of data without a fault; else row `end`.
+fn past_pages(s: &[u8], from: Cursor, end: usize) -> Cursor
+    requires { ⌜ Readable limits (now s) × (from ≡ cursorAt (now s) (from .row)) ⌝ }
+    requires { ⌜ (firstDirective (now s) ≤ from .row) × (from .row ≤ end) × (end ≤ rowCount (headOf (now s))) ⌝ }
+    ensures { λ r. ⌜ PagesPassed (now (s .entry)) (from .row) end r ⌝ }
+{
+    let mut c = from;
+    while c.row < end {
+        if !is_good_page(s, c) {
+            return c;
+        }
+        c = c.next(s);
+    }
+    c
+}
+
 // 21, 22, 24 and 30 to 33 of each directive row, then 34.
 pub fn validate_directive_headers(s: &[u8], head: SheetHead, regions: RelocRegions) -> Refusal
     requires { ⌜ Readable limits (now s) × (head ≡ headOf (now s)) × HoldsRegions regions (sheetHeaders (now s) .initializations) ⌝ }
@@ -128,11 +154,12 @@ pub fn validate_directive_headers(s: &[u8], head: SheetHead, regions: RelocRegio
     let n = head.directives as usize;
     let arch = head.revision().arch();
     let held = regions.count;
-    let bad = first_bad_area(s, head);
+    let mut bad = n + 1;
     let mut c = sheet::cursor_at(s, first);
     let mut contexts: [u32; 3] = [0; 3];
     let mut i = 0;
     while i < n {
+        bad = bad_area_by(s, head, c, bad);
         let h = headers::directive_at(s, c);
         let inside = inside_table(
             &regions.mask,
@@ -149,8 +176,8 @@ pub fn validate_directive_headers(s: &[u8], head: SheetHead, regions: RelocRegio
         if fault.is_fault() {
             return fault.in_row((first + i + 1) as u64);
         }
-        c = c.next(s);
-        i += 1;
+        c = past_pages(s, c.next(s), first + n);
+        i = c.row - first;
     }
     igvm_defs::refuse(
         no_matching_vp_context(regions, contexts),

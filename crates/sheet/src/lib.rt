@@ -6,7 +6,7 @@ ghost use Rattle.igvm_defs.specs.Kinds.{kindOf};
 ghost use Rattle.sheet.specs.Head.{limits, headOf, rowCount, bodiesAt, layoutOk, withinLimits, startFault, revisionOf, pageSizeFault};
 ghost use Rattle.sheet.specs.Table.{rowKind, rowLength, offsetOf, bodyOf};
 ghost use Rattle.sheet.specs.Read.{listAt, codesOk, rowFault, rowsRefusal, sheetRefusal, Readable};
-ghost use Rattle.sheet.specs.Walk.{cursorAt, AtRow};
+ghost use Rattle.sheet.specs.Walk.{cursorAt, AtRow, Passed, pageFits, PagesRead};
 use igvm_defs::Arch;
 use igvm_defs::Fault;
 use igvm_defs::IgvmRevision;
@@ -259,25 +259,68 @@ fn row_fault(s: &[u8], h: SheetHead, t: Kind, k: usize, at: usize) -> Fault
     igvm_defs::refuse(!codes_ok(kind, part(s, at, len)), 5, 0, Fault::NONE)
 }
 
-// The first refusal of the rows, then of bytes left over.
-fn read_rows(s: &[u8], h: SheetHead) -> Refusal
+// Whether row k, whose body starts at `at`, is a page of data that its length and the end of the sheet allow. Most rows are, and of such a row among
+// the directives there is nothing else to test.
+fn is_page(s: &[u8], k: usize, at: usize) -> bool
+    requires { ⌜ (24 + 8 * k ≤ length (now s)) × (at ≤ length (now s)) ⌝ }
+    ensures { λ r. ⌜ r ≡ pageFits (now (s .entry)) k at ⌝ }
+{
+    let len = length_at(s, k);
+    (kind_at(s, k) == 32) & (18 <= len) & (len <= s.len() - at)
+}
+
+// The first row from the cursor on that is no such page among the directives; else the place behind the last row.
+fn past_pages(s: &[u8], h: SheetHead, from: Cursor) -> Cursor
     requires { ⌜ (h ≡ headOf (now s)) × (bodiesAt h ≤ length (now s)) ⌝ }
+    requires { ⌜ (from ≡ cursorAt (now s) (from .row)) × (from .at ≤ length (now s)) × (from .row ≤ rowCount h) ⌝ }
+    ensures { λ r. ⌜ PagesRead (now (s .entry)) (from .row) r ⌝ }
+{
+    let n = h.rows();
+    let mut c = from;
+    if from.row < (h.platforms as usize) + (h.initializations as usize) {
+        return c;
+    }
+    while c.row < n {
+        let k = c.row;
+        let at = c.at;
+        if !is_page(s, k, at) {
+            return c;
+        }
+        c = Cursor {
+            row: k + 1,
+            at: at + length_at(s, k),
+        };
+    }
+    c
+}
+
+// The first refusal of the rows, then of bytes left over, where no row before the cursor has one.
+pub fn read_from(s: &[u8], h: SheetHead, from: Cursor) -> Refusal
+    requires { ⌜ (h ≡ headOf (now s)) × (bodiesAt h ≤ length (now s)) ⌝ }
+    requires { ⌜ (from ≡ cursorAt (now s) (from .row)) × (from .row ≤ rowCount h) × (from .at ≤ length (now s)) × Passed (now s) (from .row) ⌝ }
     ensures { λ r. ⌜ r ≡ rowsRefusal (now (s .entry)) ⌝ }
 {
     let kinds = igvm_defs::kinds();
     let n = h.rows();
-    let mut k = 0;
-    let mut at = 16 + 8 * n;
-    while k < n {
+    let mut c = from;
+    while c.row < n {
+        let k = c.row;
+        let at = c.at;
         let i = igvm_defs::kind_index(kind_at(s, k));
         let f = row_fault(s, h, kinds[i], k, at);
         if f.is_fault() {
             return f.in_row((k + 1) as u64);
         }
-        at += length_at(s, k);
-        k += 1;
+        c = past_pages(s, h, c.next(s));
     }
-    igvm_defs::refuse(at < s.len(), 6, 0, Fault::NONE).in_row(0)
+    igvm_defs::refuse(c.at < s.len(), 6, 0, Fault::NONE).in_row(0)
+}
+
+fn read_rows(s: &[u8], h: SheetHead) -> Refusal
+    requires { ⌜ (h ≡ headOf (now s)) × (bodiesAt h ≤ length (now s)) ⌝ }
+    ensures { λ r. ⌜ r ≡ rowsRefusal (now (s .entry)) ⌝ }
+{
+    read_from(s, h, Cursor::new(h.rows()))
 }
 
 // The cursor at row k of a readable sheet, or behind its last row.

@@ -15,7 +15,8 @@ use Rattle.directive_header.proofs.DirectiveLaws.{area-directive}
 use Rattle.directives.specs.Record.{howOf, areaNumber}
 use Rattle.directives.proofs.DirectiveRecordLaws.{how-directive}
 use Rattle.directive_pass.specs.Areas.{AreasFilled}
-use Rattle.directive_pass.proofs.DirectivePass.{firstDirective, AtDirective, at-directive, cursor-first, cursor-more, directive-header, filled-none, filled-more}
+use Rattle.directive_pass.proofs.DirectivePass.{AtDirective, at-directive, cursor-first, cursor-more, directive-header, filled-none, filled-more}
+use Rattle.directive_pass.specs.Pages.{firstDirective}
 use Rattle.directive_pass.proofs.fill_areas.Statement.{statement}
 use Rattle.directive_pass.proofs.fill_areas.Tie as tie
 

@@ -1,14 +1,12 @@
 use Prim.Native.Nat.{_≤_}
 use native.Mathlib.Omega.{arith}
-use mathlib.Core.Path.{sym, _∙_}
+use mathlib.Core.Path.{_∙_}
 use lib.ListN.{length-take}
 use borrow.Author.Needs.{needs}
-use borrow.Author.Tests.{not-true}
 use denote.Ref.{now}
 use Rattle.sheet.proofs.Readable.{readable-bounds}
 use Rattle.headers.specs.Headers.{sheetHeaders}
 use Rattle.directives.proofs.DirectiveRecordLaws.{first-bad-area}
-use Rattle.directive_pass.proofs.DirectivePass.{no-area-rows}
 use Rattle.directive_pass.proofs.first_bad_area.Statement.{statement}
 use Rattle.directive_pass.proofs.first_bad_area.Tie as tie
 
@@ -16,62 +14,41 @@ use Rattle.directive_pass.proofs.first_bad_area.Tie as tie
 room : (c : tie.Start) → c .args .head .directives ≤ 1024
 room c = rw (c .pre .1) (readable-bounds (now (c .args .s)) (c .pre .0) .directives)
 
-cast-first : tie.Need-cast-first
-cast-first c = search needs
-
-cast-first-2 : tie.Need-cast-first-2
-cast-first-2 c = search needs
-
-add-first : tie.Need-add-first
-add-first c = search needs
-
 cast-n : tie.Need-cast-n
 cast-n c = search needs
-
-any-area-requires : tie.Need-any-area-requires
-any-area-requires c κs =
-    let st = c .before .before .before .before in
-    rw (st .pre .1)
-    (let h = readable-bounds (now (st .args .s)) (st .pre .0) in
-    omega arith)
-
-returns : tie.Need-returns
-returns c =
-    let st = c .before .before .before .before .before .before in
-    rw (st .pre .1) (sym (no-area-rows (now (st .args .s)) (st .pre .0) (rw (st .pre .1) at (sym (c .before .any-area .ensures) ∙ not-true _ (c .if1 .taken)))))
 
 fill-areas-requires : tie.Need-fill-areas-requires
 fill-areas-requires c κs = search needs
 
 array-share-prefix-area : tie.Need-array-share-prefix-area
 array-share-prefix-area c =
-    let h = room (c .before .before .before .before .before .before .before .before .before) in
+    let h = room (c .before .before .before .before .before) in
     omega arith
 
 slice-aggregate-first-bad : tie.Need-slice-aggregate-first-bad
 slice-aggregate-first-bad c =
-    let h = room (c .before .before .before .before .before .before .before .before .before .before) in
+    let h = room (c .before .before .before .before .before .before) in
     simp length-take (omega arith)
 
 array-share-prefix-how : tie.Need-array-share-prefix-how
 array-share-prefix-how c =
-    let h = room (c .before .before .before .before .before .before .before .before .before .before) in
+    let h = room (c .before .before .before .before .before .before) in
     omega arith
 
 slice-aggregate-first-bad-2 : tie.Need-slice-aggregate-first-bad-2
 slice-aggregate-first-bad-2 c =
-    let h = room (c .before .before .before .before .before .before .before .before .before .before .before) in
+    let h = room (c .before .before .before .before .before .before .before) in
     simp length-take (omega arith)
 
 first-bad-requires : tie.Need-first-bad-requires
 first-bad-requires c κs =
-    let h = room (c .before .before .before .before .before .before .before .before .before .before .before) in
+    let h = room (c .before .before .before .before .before .before .before) in
     simp length-take (omega arith)
 
-returns-2 : tie.Need-returns-2
+returns : tie.Need-returns
 unfolding sheetHeaders
-returns-2 c =
-    let st = c .before .before .before .before .before .before .before .before .before .before .before .before in
+returns c =
+    let st = c .before .before .before .before .before .before .before .before in
     let f = c .before .before .before .fill-areas .ensures in
     let h = room st in
     c .first-bad .ensures ∙ rw (st .pre .1) (first-bad-area (sheetHeaders (now (st .args .s)) .directives) _ _ (rw (← st .pre .1, f .areas) h) (f .same))
@@ -80,16 +57,11 @@ pub first-bad-area-spec : {M : Type 1} → statement M
 first-bad-area-spec =
     tie.close
     (tie.spec
-    cast-first
-    cast-first-2
-    add-first
     cast-n
-    any-area-requires
-    returns
     fill-areas-requires
     array-share-prefix-area
     slice-aggregate-first-bad
     array-share-prefix-how
     slice-aggregate-first-bad-2
     first-bad-requires
-    returns-2)
+    returns)
