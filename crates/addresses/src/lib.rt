@@ -32,7 +32,7 @@ fn before_end(a: u64, b: u64, n: u64) -> bool
 }
 
 // b + n <= m, with no sum that could wrap.
-fn ends_by(b: u64, n: u64, m: u64) -> bool
+pub fn ends_by(b: u64, n: u64, m: u64) -> bool
     ensures { λ r. ⌜ r ≡ leb (b + n) m ⌝ }
 {
     if m < b {

@@ -1,2 +1,3 @@
 pub mod FaultLaws
 pub mod RecordLaws
+pub mod ExtentLaws

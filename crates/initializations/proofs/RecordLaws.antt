@@ -6,17 +6,16 @@ use mathlib.Core.Option.{none, some}
 use Prim.Native.Nat.{ℕ, _+_, _<_}
 use native.Mathlib.Nat.{add-zero}
 use native.Mathlib.Omega.{arith}
-use lib.ListN.{length, set}
+use lib.ListN.{length}
 use lib.Seq.{getD-set-same, getD-set-other}
-use mir.Val.{boolByte}
 use Rattle.rows.specs.Below.{anyBelow}
 use Rattle.rows.specs.Rows.{Rows, before}
 use Rattle.rows.proofs.BelowLaws.{any-more, any-same-tests}
 use Rattle.initialization_header.specs.declared.IgvmInitializationHeader.{IgvmInitializationHeader}
 use Rattle.rules.specs.declared.Region.{Region}
 use Rattle.initializations.specs.declared.RelocRegions.{RelocRegions}
-use Rattle.rules.specs.Regions.{regionOf, regionPasses}
-use Rattle.initializations.specs.Record.{entry, anyRegion, HoldsRegions}
+use Rattle.rules.specs.Regions.{regionOf, regionPasses, tablesShare, overlap}
+use Rattle.initializations.specs.Record.{entry, anyRegion, HoldsRegions, HoldsClashes, stored}
 
 -- no region, and no row
 pub holds-none : (r : RelocRegions) (xs : Rows IgvmInitializationHeader) → r .count ≡ 0 → HoldsRegions r (before 0 xs)
@@ -52,19 +51,6 @@ holds-kept r xs i q held e count same =
 abbrev pub Lengths : RelocRegions → Type 0
 Lengths r =
     (length (r .mask) ≡ 64) × (length (r .gpa) ≡ 64) × (length (r .size) ≡ 64) × (length (r .«vp_index») ≡ 64) × (length (r .vtl) ≡ 64) × (length (r .«page_table») ≡ 64)
-
--- a region behind those of the record, counted where there is one
-abbrev stored : RelocRegions → Bool → Region → RelocRegions
-stored r found new =
-    record {
-      mask = set (r .mask) (r .count) (new .mask);
-      gpa = set (r .gpa) (r .count) (new .gpa);
-      size = set (r .size) (r .count) (new .size);
-      «vp_index» = set (r .«vp_index») (r .count) (new .«vp_index»);
-      vtl = set (r .vtl) (r .count) (new .vtl);
-      «page_table» = set (r .«page_table») (r .count) (new .«page_table»);
-      count = r .count + boolByte found;
-    }
 
 module _ (r : RelocRegions) (new : Region) (room : r .count < 64) (lengths : Lengths r) where
   entry-before : (found : Bool) (i : ℕ) → i < r .count → entry (stored r found new) i ≡ entry r i
@@ -107,3 +93,8 @@ module _ (r : RelocRegions) (new : Region) (room : r .count < 64) (lengths : Len
       → HoldsRegions (stored r found new) (before (i + 1) xs)
   holds-stored xs i true held e = holds-pushed r xs i new (stored r true new) held e stored-pushed
   holds-stored xs i false held e = holds-kept r xs i (stored r false new) held e (omega arith) (λ p. rw add-zero (same-before false p))
+
+-- the record's arrays tell what clashes with a region
+pub holds-clashes : (r : RelocRegions) (xs : Rows IgvmInitializationHeader) → HoldsRegions r xs → HoldsClashes (r .mask) (r .gpa) (r .size) (r .«page_table») (r .count) xs
+unfolding tablesShare overlap
+holds-clashes r xs held = record { tables-share = λ new. held .same (tablesShare new); overlaps = λ new. held .same (overlap new) }

@@ -1,22 +1,24 @@
 -- The record of the regions read so far, and the rows that it stands for, in whatever order it keeps them.
 use Prim.Native.Nat.{ℕ, _+_, _≤_}
 use mathlib.Core.Path.{_≡_}
-use mathlib.Core.Bool.{Bool, false, _&&_}
+use mathlib.Core.Bool.{Bool, true, false, cond, _&&_}
+use mathlib.Core.Option.{none, some}
 use mathlib.Core.List.{List}
 use lib.Dec.{eqb}
-use lib.ListN.{getD}
+use lib.ListN.{getD, set}
+use mir.Val.{boolByte}
 use Rattle.rows.specs.Below.{anyBelow}
 use Rattle.rows.specs.Rows.{Rows, any, before}
 use Rattle.igvm_defs.specs.declared.Arch.{Arch}
 use Rattle.igvm_defs.specs.declared.Fault.{Fault}
-use Rattle.igvm_defs.specs.Refusals.{fault, noFault, refuse, orFault}
+use Rattle.igvm_defs.specs.Refusals.{fault, noFault, refuse, orFault, isFault}
 use Rattle.addresses.specs.Addresses.{endsBeyond, contains, meets}
 use Rattle.masks.specs.Masks.{shares}
 use Rattle.platform_header.specs.declared.IgvmPlatformHeader.{IgvmPlatformHeader}
 use Rattle.initialization_header.specs.declared.IgvmInitializationHeader.{IgvmInitializationHeader}
 use Rattle.rules.specs.declared.Region.{Region}
 use Rattle.initializations.specs.declared.RelocRegions.{RelocRegions}
-use Rattle.rules.specs.Regions.{regionPasses}
+use Rattle.rules.specs.Regions.{regionOf, regionPasses, tablesShare, overlap}
 use Rattle.rules.specs.Initializations.{wrongArch, withoutCca, refuseBit, initializationFault}
 
 -- region i of the record
@@ -72,7 +74,26 @@ regionFault own shares overlaps r =
     (refuse overlaps (fault 29 0)
     noFault))))
 
--- what a step at row i answers: the row's fault, and the record with the row's region
-pub record InitializationStepped (arch : Arch) (ps : Rows IgvmPlatformHeader) (xs : Rows IgvmInitializationHeader) (i : ℕ) (f : Fault) (r : RelocRegions) : Type 0 where
+-- the first n regions of the arrays clash with a region exactly where the rows' regions do
+pub record HoldsClashes (masks gpas sizes : List ℕ) (tables : List Bool) (n : ℕ) (xs : Rows IgvmInitializationHeader) : Type 0 where
+  pub tables-share : (r : Region) → anyTablesShare r masks tables n ≡ any (regionPasses (tablesShare r)) xs
+  pub overlaps : (r : Region) → anyOverlap r masks gpas sizes n ≡ any (regionPasses (overlap r)) xs
+
+-- what a step at row i answers: the row's fault, and its region where it has one, which ends below 2^64 where there is no fault
+pub record InitializationStepped (arch : Arch) (ps : Rows IgvmPlatformHeader) (xs : Rows IgvmInitializationHeader) (i : ℕ) (f : Fault) (found : Bool) (new : Region) : Type 0 where
   pub told : f ≡ initializationFault arch ps (before i xs) (xs .row i)
-  pub next : HoldsRegions r (before (i + 1) xs)
+  pub region : regionOf (xs .row i) ≡ cond found (some new) none
+  pub ends : isFault f ≡ false → found ≡ true → new .gpa + new .size ≤ 18446744073709551615
+
+-- the record with a region behind its own, counted where there is one
+abbrev pub stored : RelocRegions → Bool → Region → RelocRegions
+stored r found new =
+    record {
+      mask = set (r .mask) (r .count) (new .mask);
+      gpa = set (r .gpa) (r .count) (new .gpa);
+      size = set (r .size) (r .count) (new .size);
+      «vp_index» = set (r .«vp_index») (r .count) (new .«vp_index»);
+      vtl = set (r .vtl) (r .count) (new .vtl);
+      «page_table» = set (r .«page_table») (r .count) (new .«page_table»);
+      count = r .count + boolByte found;
+    }

@@ -1,8 +1,8 @@
 // Initialization headers: refusals 16 to 29, header by header, and the record of regions.
 ghost use mathlib.Core.Path.{_≡_};
-ghost use mathlib.Core.Bool.{true, not, cond, _&&_};
+ghost use mathlib.Core.Bool.{true, false, not, cond, _&&_};
 ghost use mathlib.Core.Option.{none, some};
-ghost use Prim.Native.Nat.{ℕ, _+_, _<_, _≤_};
+ghost use Prim.Native.Nat.{ℕ, _+_, _≤_};
 ghost use Rattle.rows.specs.Rows.{Rows, before};
 ghost use Rattle.platform_header.specs.declared.IgvmPlatformHeader.{IgvmPlatformHeader};
 ghost use Rattle.initialization_header.specs.declared.IgvmInitializationHeader.{IgvmInitializationHeader};
@@ -11,9 +11,11 @@ ghost use Rattle.igvm_defs.specs.Vtls.{vtlNumber};
 ghost use Rattle.masks.specs.Masks.{shares, individualMasks, firstMask};
 ghost use Rattle.addresses.specs.Addresses.{meets};
 ghost use Rattle.platforms.specs.Record.{HoldsPlatforms, lastTypeIsCca};
-ghost use Rattle.rules.specs.Regions.{regionOf};
+ghost use Rattle.rules.specs.declared.Region.{Region};
+ghost use Rattle.rules.specs.Regions.{regionOf, overlap};
 ghost use Rattle.rules.specs.Initializations.{validateAddresses, validateRegion, validateTable, validateInitialization, refuseBit};
-ghost use Rattle.initializations.specs.Record.{anyTablesShare, anyOverlap, anyTableHolds, policyFault, regionFault, HoldsRegions, InitializationStepped};
+ghost use Rattle.initializations.specs.Record.{anyTablesShare, anyOverlap, anyTableHolds, policyFault, regionFault, HoldsClashes, InitializationStepped};
+ghost use Rattle.initializations.specs.Extents.{apart, Widened, apartFrom, Covers};
 use igvm_defs::Arch;
 use igvm_defs::Fault;
 use igvm_defs::Vtl;
@@ -183,6 +185,127 @@ fn any_overlap<'a>(
     found
 }
 
+// ---- what the regions lie within
+
+// What some regions lie within: their lowest start, their highest end, and all bits of their masks.
+pub struct Extent {
+    pub low: u64,
+    pub high: u64,
+    pub masks: u32,
+}
+
+impl Extent {
+    // Of no region.
+    pub const NONE: Extent = Extent {
+        low: 18446744073709551615,
+        high: 0,
+        masks: 0,
+    };
+
+    // r starts at the end or later, ends at the start or before, or shares no bit.
+    fn apart(self, r: Region) -> bool
+        ensures { λ b. ⌜ b ≡ apart self r ⌝ }
+    {
+        (self.high <= r.gpa)
+            | (addresses::ends_by(r.gpa, r.size, self.low) | !masks::shares(self.masks, r.mask))
+    }
+
+    fn with(self, r: Region) -> Extent
+        requires { ⌜ r .gpa + r .size ≤ 18446744073709551615 ⌝ }
+        ensures { λ e. ⌜ Widened self r e ⌝ }
+    {
+        Extent {
+            low: least(self.low, r.gpa),
+            high: most(self.high, r.gpa + r.size),
+            masks: self.masks | r.mask,
+        }
+    }
+}
+
+fn least(a: u64, b: u64) -> u64
+    ensures { λ r. ⌜ (r ≤ a) × (r ≤ b) ⌝ }
+{
+    if a < b {
+        return a;
+    }
+    b
+}
+
+fn most(a: u64, b: u64) -> u64
+    ensures { λ r. ⌜ (a ≤ r) × (b ≤ r) ⌝ }
+{
+    if a < b {
+        return b;
+    }
+    a
+}
+
+// The regions and the page tables so far, each with what they lie within. A region apart from both overlaps none of them; page tables mostly lie away
+// from the regions, so one extent for all would tell less.
+pub struct Reach {
+    pub regions: Extent,
+    pub tables: Extent,
+}
+
+impl Reach {
+    pub fn new() -> Reach
+        ensures { λ e. ⌜ ((xs : Rows IgvmInitializationHeader) → Covers e (before 0 xs)) ⌝ }
+    {
+        Reach {
+            regions: Extent::NONE,
+            tables: Extent::NONE,
+        }
+    }
+
+    fn apart(self, r: Region) -> bool
+        ensures { λ b. ⌜ b ≡ apartFrom self r ⌝ }
+    {
+        let regions = self.regions;
+        let tables = self.tables;
+        regions.apart(r) & tables.apart(r)
+    }
+
+    // With one region more, where there is one.
+    pub fn with(self, found: bool, r: Region) -> Reach
+        requires { ⌜ (found ≡ true → r .gpa + r .size ≤ 18446744073709551615) ⌝ }
+        ensures { λ e. ⌜ ((q : Region) → apartFrom e q ≡ true → (apartFrom self q ≡ true) × (found ≡ true → overlap q r ≡ false)) ⌝ }
+    {
+        let regions = self.regions;
+        let tables = self.tables;
+        if !found {
+            return self;
+        }
+        if r.page_table {
+            return Reach {
+                regions,
+                tables: tables.with(r),
+            };
+        }
+        Reach {
+            regions: regions.with(r),
+            tables,
+        }
+    }
+}
+
+// As `any_overlap`, but for a region apart from what the regions lie within.
+fn any_near_overlap<'a>(
+    reach: Reach,
+    r: Region,
+    masks: &'a [u32; 64],
+    gpas: &'a [u64; 64],
+    sizes: &'a [u64; 64],
+    n: usize,
+) -> bool
+    requires { ⌜ n ≤ 64 ⌝ }
+    ensures { λ s. ⌜ s ≡ (not (apartFrom reach r) && anyOverlap r (now (masks .entry)) (now (gpas .entry)) (now (sizes .entry)) n) ⌝ }
+{
+    if reach.apart(r) {
+        return false;
+    }
+    any_overlap(r, masks, gpas, sizes, n)
+}
+
 // Some page table of the first n regions shares a bit with the mask and contains the address.
 pub fn any_table_holds<'a>(
     masks: &'a [u32; 64],
@@ -323,41 +446,42 @@ impl RelocRegions {
             count: 0,
         }
     }
+}
 
-    // One row more: its fault, and the record with its region, which is stored in any case and counted where there is one. Each branch that
-    // returns the record, and each local that holds it, would cost a copy of it.
-    pub fn step(
-        self,
-        arch: Arch,
-        platforms: Platforms,
-        h: IgvmInitializationHeader,
-    ) -> InitializationStep
-        requires { ⌜ (self .count < 64) × (platforms .count ≤ 16) ⌝ }
-        ensures { λ r. ⌜ ((ps : Rows IgvmPlatformHeader) (xs : Rows IgvmInitializationHeader) (i : ℕ) → HoldsPlatforms platforms ps → h ≡ xs .row i → HoldsRegions self (before i xs) → InitializationStepped arch ps xs i (r .fault) (r .regions)) ⌝ }
-    {
-        let own = igvm_defs::or_fault(validate(h), policy_fault(arch, platforms, h));
-        let new = region_of(h);
-        let found = new.found;
-        let r = new.region;
-        let mut regions = self;
-        let n = regions.count;
-        let shares = any_tables_share(r, &regions.mask, &regions.page_table, n);
-        let overlaps = any_overlap(r, &regions.mask, &regions.gpa, &regions.size, n);
-        let fault = row_fault(found, region_fault(own, shares, overlaps, r), own);
-        regions.mask[n] = r.mask;
-        regions.gpa[n] = r.gpa;
-        regions.size[n] = r.size;
-        regions.vp_index[n] = r.vp_index;
-        regions.vtl[n] = r.vtl;
-        regions.page_table[n] = r.page_table;
-        regions.count = n + found as usize;
-        InitializationStep { regions, fault }
+// The fault of a row, and its region where it has one. The regions before it are the first n of the lent arrays; who keeps them stores the region in
+// place, since a record of arrays that is passed or returned is copied.
+pub fn check<'a>(
+    arch: Arch,
+    platforms: Platforms,
+    h: IgvmInitializationHeader,
+    reach: Reach,
+    masks: &'a [u32; 64],
+    gpas: &'a [u64; 64],
+    sizes: &'a [u64; 64],
+    tables: &'a [bool; 64],
+    n: usize,
+) -> InitializationStep
+    requires { ⌜ (n ≤ 64) × (platforms .count ≤ 16) ⌝ }
+    ensures { λ r. ⌜ ((ps : Rows IgvmPlatformHeader) (xs : Rows IgvmInitializationHeader) (i : ℕ) → HoldsPlatforms platforms ps → h ≡ xs .row i → HoldsClashes (now (masks .entry)) (now (gpas .entry)) (now (sizes .entry)) (now (tables .entry)) n (before i xs) → Covers reach (before i xs) → InitializationStepped arch ps xs i (r .fault) (r .found) (r .region)) ⌝ }
+{
+    let own = igvm_defs::or_fault(validate(h), policy_fault(arch, platforms, h));
+    let new = region_of(h);
+    let found = new.found;
+    let region = new.region;
+    let shares = any_tables_share(region, masks, tables, n);
+    let overlaps = any_near_overlap(reach, region, masks, gpas, sizes, n);
+    let fault = row_fault(found, region_fault(own, shares, overlaps, region), own);
+    InitializationStep {
+        fault,
+        found,
+        region,
     }
 }
 
 pub struct InitializationStep {
-    pub regions: RelocRegions,
     pub fault: Fault,
+    pub found: bool,
+    pub region: Region,
 }
 
 // 25, with the lowest bit of the mask whose last platform is not CCA.

@@ -1,12 +1,13 @@
 -- Laws of the passes over the platform and the initialization rows: what holds at a turn of the loop, where it stops, and what it says at the end.
 -- Assumes nothing.
 use mathlib.Core.Path.{_≡_, refl, sym, _∙_}
-use mathlib.Core.Bool.{true, false, false≢true}
+use mathlib.Core.Bool.{Bool, true, false, false≢true}
 use mathlib.Core.List.{List}
 use Prim.Native.Nat.{ℕ, _+_, _≤_, _<_}
 use native.Mathlib.Nat.{add-zero, zero-add, add-assoc}
 use native.Mathlib.Omega.{arith}
 use lib.Dec.{eqb}
+use lib.ListN.{length-set}
 use Rattle.rows.specs.Below.{anyBelow}
 use Rattle.rows.specs.Rows.{Rows, before}
 use Rattle.rows.proofs.BelowLaws.{any-more}
@@ -32,8 +33,14 @@ use Rattle.platforms.specs.declared.Platforms.{Platforms}
 use Rattle.platforms.specs.Record.{HoldsPlatforms, PlatformStepped}
 use Rattle.platforms.proofs.RecordLaws.{holds-count}
 use Rattle.initializations.specs.declared.RelocRegions.{RelocRegions}
-use Rattle.initializations.specs.Record.{HoldsRegions, InitializationStepped}
-use Rattle.passes.specs.Passes.{PlatformsPassed, InitializationsPassed}
+use Rattle.rules.specs.declared.Region.{Region}
+use Rattle.initializations.specs.Record.{HoldsRegions, HoldsClashes, InitializationStepped, stored}
+use Rattle.initializations.specs.declared.Reach.{Reach}
+use Rattle.initializations.specs.Extents.{apartFrom, Covers}
+use Rattle.initializations.proofs.RecordLaws.{holds-stored, holds-clashes}
+use Rattle.initializations.proofs.ExtentLaws.{covers-more}
+use Rattle.rules.specs.Regions.{overlap}
+use Rattle.passes.specs.Passes.{PlatformsPassed, InitializationsPassed, Lengths}
 use Rattle.headers.proofs.HeaderLaws.{sheet-counts}
 
 -- ---- any list
@@ -148,16 +155,18 @@ unfolding initializationsRefusal
 initializations-first h first n e d = rw (e, d)
 
 -- at the head of the loop
-pub record InitializationsReached (s : List ℕ) (p : Platforms) (first n : ℕ) (a : Arch) (c : Cursor) (q : RelocRegions) (i : ℕ) : Type 0 where
+pub record InitializationsReached (s : List ℕ) (p : Platforms) (first n : ℕ) (a : Arch) (c : Cursor) (q : RelocRegions) (e : Reach) (i : ℕ) : Type 0 where
   pub readable : Readable limits s
   pub platforms : HoldsPlatforms p (sheetHeaders s .platforms)
   pub first-row : first ≡ headOf s .platforms
   pub rows : n ≡ headOf s .initializations
   pub arch : a ≡ sheetHeaders s .arch
   pub reached : RowsReached s first n (initializationFaults (sheetHeaders s)) c i
+  pub lengths : Lengths q
   pub holds : HoldsRegions q (before i (sheetHeaders s .initializations))
+  pub covers : Covers e (before i (sheetHeaders s .initializations))
 
-module _ {s : List ℕ} {p : Platforms} {first n : ℕ} {a : Arch} {c : Cursor} {q : RelocRegions} {i : ℕ} (r : InitializationsReached s p first n a c q i) where
+module _ {s : List ℕ} {p : Platforms} {first n : ℕ} {a : Arch} {c : Cursor} {q : RelocRegions} {reach : Reach} {i : ℕ} (r : InitializationsReached s p first n a c q reach i) where
   pub initialization-known : i < n → AtRow s c × (kindOf (rowKind s (c .row)) .list ≡ initializationList)
   initialization-known l =
       let e = r .rows in
@@ -179,19 +188,21 @@ module _ {s : List ℕ} {p : Platforms} {first n : ℕ} {a : Arch} {c : Cursor} 
       let h = r .holds .count in
       (omega arith, holds-count p (sheetHeaders s .platforms) (r .platforms))
 
-  -- the step's answer, at the row that the cursor stands at
-  pub initialization-stepped : (h : IgvmInitializationHeader) (f : Fault) (next : RelocRegions) → h ≡ initializationOf (rowKind s (c .row)) (bodyOf s (c .row))
-      → ((ps : Rows IgvmPlatformHeader) (xs : Rows IgvmInitializationHeader) (j : ℕ) → HoldsPlatforms p ps → h ≡ xs .row j → HoldsRegions q (before j xs)
-      → InitializationStepped a ps xs j f next)
-      → InitializationStepped (sheetHeaders s .arch) (sheetHeaders s .platforms) (sheetHeaders s .initializations) i f next
-  initialization-stepped h f next e step =
+  -- the check's answer, at the row that the cursor stands at
+  pub initialization-stepped : (h : IgvmInitializationHeader) (f : Fault) (found : Bool) (new : Region) → h ≡ initializationOf (rowKind s (c .row)) (bodyOf s (c .row))
+      → ((ps : Rows IgvmPlatformHeader) (xs : Rows IgvmInitializationHeader) (j : ℕ) → HoldsPlatforms p ps → h ≡ xs .row j
+      → HoldsClashes (q .mask) (q .gpa) (q .size) (q .«page_table») (q .count) (before j xs) → Covers reach (before j xs) → InitializationStepped a ps xs j f found new)
+      → InitializationStepped (sheetHeaders s .arch) (sheetHeaders s .platforms) (sheetHeaders s .initializations) i f found new
+  initialization-stepped h f found new e step =
       rw (← r .arch)
-      (step (sheetHeaders s .platforms) (sheetHeaders s .initializations) i (r .platforms) (rw (e, r .reached .at, initialization-header s i, r .first-row)) (r .holds))
+      (step (sheetHeaders s .platforms) (sheetHeaders s .initializations) i (r .platforms) (rw (e, r .reached .at, initialization-header s i, r .first-row))
+      (holds-clashes q (before i (sheetHeaders s .initializations)) (r .holds)) (r .covers))
 
-  pub initialization-next : (d : Cursor) (f : Fault) (next : RelocRegions) → i < n
-      → InitializationStepped (sheetHeaders s .arch) (sheetHeaders s .platforms) (sheetHeaders s .initializations) i f next → isFault f ≡ false
-      → d ≡ cursorAt s (c .row + 1) → InitializationsReached s p first n a d next (i + 1)
-  initialization-next d f next l step e at =
+  pub initialization-next : (d : Cursor) (f : Fault) (found : Bool) (new : Region) (wider : Reach) → i < n
+      → InitializationStepped (sheetHeaders s .arch) (sheetHeaders s .platforms) (sheetHeaders s .initializations) i f found new → isFault f ≡ false
+      → ((o : Region) → apartFrom wider o ≡ true → (apartFrom reach o ≡ true) × (found ≡ true → overlap o new ≡ false))
+      → d ≡ cursorAt s (c .row + 1) → InitializationsReached s p first n a d (stored q found new) wider (i + 1)
+  initialization-next d f found new wider l step e apart at =
       record {
         readable = r .readable;
         platforms = r .platforms;
@@ -199,16 +210,18 @@ module _ {s : List ℕ} {p : Platforms} {first n : ℕ} {a : Arch} {c : Cursor} 
         rows = r .rows;
         arch = r .arch;
         reached = rows-next s first n (initializationFaults (sheetHeaders s)) c d i (r .reached) l (rw (← step .told) e) at;
-        holds = step .next;
+        lengths = let (m, g, z, p, v, t) = r .lengths in (simp length-set m, simp length-set g, simp length-set z, simp length-set p, simp length-set v, simp length-set t);
+        holds = holds-stored q new (initialization-room l .0) (r .lengths) (sheetHeaders s .initializations) i found (r .holds) (step .region);
+        covers = covers-more reach wider (sheetHeaders s .initializations) i found new (r .covers) (step .region) apart;
       }
 
   told-initializations : initializationsRefusal (sheetHeaders s) ≡ firstFault first n (initializationFaults (sheetHeaders s))
   told-initializations = initializations-first (sheetHeaders s) first n (r .first-row ∙ sym (sheet-counts s .platforms)) (r .rows ∙ sym (sheet-counts s .initializations))
 
-  pub initializations-stop : (f : Fault) (next : RelocRegions) → i < n
-      → InitializationStepped (sheetHeaders s .arch) (sheetHeaders s .platforms) (sheetHeaders s .initializations) i f next → isFault f ≡ true
-      → InitializationsPassed s (inRow (first + i + 1) f) next
-  initializations-stop f next l step t =
+  pub initializations-stop : (f : Fault) (found : Bool) (new : Region) → i < n
+      → InitializationStepped (sheetHeaders s .arch) (sheetHeaders s .platforms) (sheetHeaders s .initializations) i f found new → isFault f ≡ true
+      → InitializationsPassed s (inRow (first + i + 1) f) q
+  initializations-stop f found new l step t =
       record {
         told = rw (told-initializations, rows-stop s first n (initializationFaults (sheetHeaders s)) c i (r .reached) l (rw (← step .told) t), step .told);
         holds = stopped (first + i + 1) f t;

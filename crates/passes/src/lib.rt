@@ -4,9 +4,10 @@ ghost use Rattle.sheet.specs.Head.{limits, headOf};
 ghost use Rattle.sheet.specs.Read.{Readable};
 ghost use Rattle.headers.specs.Headers.{sheetHeaders};
 ghost use Rattle.platforms.specs.Record.{HoldsPlatforms};
-ghost use Rattle.passes.specs.Passes.{PlatformsPassed, InitializationsPassed};
+ghost use Rattle.passes.specs.Passes.{PlatformsPassed, InitializationsPassed, Lengths};
 use igvm_defs::Fault;
 use igvm_defs::Refusal;
+use initializations::Reach;
 use initializations::RelocRegions;
 use platforms::Platforms;
 use sheet::Cursor;
@@ -50,7 +51,14 @@ pub struct InitializationsPass {
     pub regions: RelocRegions,
 }
 
-// 16 to 29 of each initialization row.
+// A record with no region. Its arrays' lengths, which the record's type tells here, are no longer told of a record that a loop changes.
+fn no_regions() -> RelocRegions
+    ensures { λ r. ⌜ (r .count ≡ 0) × Lengths r ⌝ }
+{
+    RelocRegions::new()
+}
+
+// 16 to 29 of each initialization row. A row's region is stored in place in any case, and counted where there is one.
 pub fn validate_initialization_headers(
     s: &[u8],
     head: SheetHead,
@@ -63,19 +71,40 @@ pub fn validate_initialization_headers(
     let n = head.initializations as usize;
     let arch = head.revision().arch();
     let mut c = sheet::cursor_at(s, first);
-    let mut regions = RelocRegions::new();
+    let mut regions = no_regions();
+    let mut reach = Reach::new();
     let mut i = 0;
     while i < n {
-        let step = regions.step(arch, platforms, headers::initialization_at(s, c));
+        let k = regions.count;
+        let h = headers::initialization_at(s, c);
+        let step = initializations::check(
+            arch,
+            platforms,
+            h,
+            reach,
+            &regions.mask,
+            &regions.gpa,
+            &regions.size,
+            &regions.page_table,
+            k,
+        );
         let fault = step.fault;
-        let next = step.regions;
-        regions = next;
         if fault.is_fault() {
             return InitializationsPass {
                 refusal: fault.in_row((first + i + 1) as u64),
                 regions,
             };
         }
+        let found = step.found;
+        let r = step.region;
+        regions.mask[k] = r.mask;
+        regions.gpa[k] = r.gpa;
+        regions.size[k] = r.size;
+        regions.vp_index[k] = r.vp_index;
+        regions.vtl[k] = r.vtl;
+        regions.page_table[k] = r.page_table;
+        regions.count = k + found as usize;
+        reach = reach.with(found, r);
         c = c.next(s);
         i += 1;
     }
