@@ -1,5 +1,5 @@
 -- The record of the regions read so far, and the rows that it stands for, in whatever order it keeps them.
-use Prim.Native.Nat.{ℕ, _+_, _≤_}
+use Prim.Native.Nat.{ℕ, _+_, _<_, _≤_}
 use mathlib.Core.Path.{_≡_}
 use mathlib.Core.Bool.{Bool, true, false, cond, _&&_}
 use mathlib.Core.Option.{none, some}
@@ -7,8 +7,8 @@ use mathlib.Core.List.{List}
 use lib.Dec.{eqb}
 use lib.ListN.{getD, set}
 use mir.Val.{boolByte}
-use Rattle.rows.specs.Below.{anyBelow}
-use Rattle.rows.specs.Rows.{Rows, any, before}
+use Rattle.rows.specs.Below.{anyBelow, countBelow}
+use Rattle.rows.specs.Rows.{Rows, any, before, countOf}
 use Rattle.igvm_defs.specs.declared.Arch.{Arch}
 use Rattle.igvm_defs.specs.declared.Fault.{Fault}
 use Rattle.igvm_defs.specs.Refusals.{fault, noFault, refuse, orFault, isFault}
@@ -56,6 +56,18 @@ anyTableHolds mask gpa masks gpas sizes tables n =
 pub record HoldsRegions (r : RelocRegions) (xs : Rows IgvmInitializationHeader) : Type 0 where
   pub count : r .count ≤ xs .count
   pub same : (p : Region → Bool) → anyRegion p r ≡ any (regionPasses p) xs
+
+-- the record that has these arrays
+abbrev pub regionsIn : List ℕ → List ℕ → List ℕ → List ℕ → List ℕ → List Bool → ℕ → RelocRegions
+regionsIn masks gpas sizes vps vtls tables n =
+    record { mask = masks; gpa = gpas; size = sizes; «vp_index» = vps; vtl = vtls; «page_table» = tables; count = n }
+
+-- the rows of a record's regions: `first` rows of the sheet stand before the list
+pub record HoldsRows (first : ℕ) (rows : List ℕ) (r : RelocRegions) (xs : Rows IgvmInitializationHeader) : Type 0 where
+  -- region e is that of the row whose number in the sheet, from 1, stands at e
+  pub each : (e : ℕ) → e < r .count → (i : ℕ) × (i < xs .count) × (getD rows e 0 ≡ first + i + 1) × (regionOf (xs .row i) ≡ some (entry r e))
+  -- as many regions pass a test as rows' regions do
+  pub counts : (p : Region → Bool) → countBelow (r .count) (λ e. p (entry r e)) ≡ countOf (regionPasses p) xs
 
 -- 24 and 25: a CcaPolicy by the architecture and the platforms
 unfoldable pub policyFault : Arch → Rows IgvmPlatformHeader → IgvmInitializationHeader → Fault

@@ -46,7 +46,7 @@ fn validate_addresses(alignment: u64, gpa: u64, minimum: u64, maximum: u64) -> F
 }
 
 // 17, 18, 19 and 20: a relocatable region alone.
-fn validate_region(alignment: u64, gpa: u64, size: u64, minimum: u64, maximum: u64) -> Fault
+pub fn validate_region(alignment: u64, gpa: u64, size: u64, minimum: u64, maximum: u64) -> Fault
     ensures { λ r. ⌜ r ≡ validateRegion alignment gpa size minimum maximum ⌝ }
 {
     igvm_defs::refuse(
@@ -68,7 +68,7 @@ fn validate_region(alignment: u64, gpa: u64, size: u64, minimum: u64, maximum: u
 }
 
 // 21, 22 (size, used size) and 23: a page table region alone.
-fn validate_table(gpa: u64, size: u64, used: u64) -> Fault
+pub fn validate_table(gpa: u64, size: u64, used: u64) -> Fault
     ensures { λ r. ⌜ r ≡ validateTable gpa size used ⌝ }
 {
     igvm_defs::refuse(
@@ -257,7 +257,7 @@ impl Reach {
         }
     }
 
-    fn apart(self, r: Region) -> bool
+    pub fn apart(self, r: Region) -> bool
         ensures { λ b. ⌜ b ≡ apartFrom self r ⌝ }
     {
         let regions = self.regions;

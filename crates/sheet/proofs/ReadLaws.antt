@@ -1,9 +1,9 @@
 -- Laws of `rowsRefusal` and `sheetRefusal`, for the passes that compute them: where each stops, and what it says at the end.
 -- Assumes nothing.
-use mathlib.Core.Path.{_≡_, refl}
+use mathlib.Core.Path.{_≡_, refl, sym, ap}
 use mathlib.Core.Bool.{Bool, true, false, _&&_}
 use mathlib.Core.List.{List}
-use Prim.Native.Nat.{ℕ, _+_, _-_, _<_, _≤_}
+use Prim.Native.Nat.{ℕ, _+_, _-_, _*_, _<_, _≤_}
 use native.Mathlib.Omega.{arith}
 use lib.Dec.{eqb, leb, ltb}
 use lib.ListN.{length}
@@ -15,11 +15,12 @@ use Rattle.rows.proofs.BelowLaws.{any-more, none-any}
 use Rattle.igvm_defs.specs.Kinds.{kindOf, spans, lengthOk}
 use Rattle.igvm_defs.specs.Refusals.{noRefusal, isFault, isRefusal, inRow}
 use Rattle.igvm_defs.proofs.RefusalLaws.{row-refusal, orElse-first, orElse-later, fault-stop, fault-end}
-use Rattle.sheet.specs.Head.{Limits, headOf, rowCount, startFault, pageSizeFault}
+use Rattle.sheet.specs.declared.Cursor.{Cursor}
+use Rattle.sheet.specs.Head.{Limits, headOf, rowCount, bodiesAt, startFault, pageSizeFault}
 use Rattle.sheet.specs.Table.{rowKind, rowLength, offsetOf}
 use Rattle.sheet.specs.Read.{codesOk, rowFault, endFault, rowsRefusal, readRefusal, sheetRefusal}
-use Rattle.sheet.specs.Walk.{Passed, pageFits}
-use Rattle.sheet.proofs.Readable.{row-says, directive-list}
+use Rattle.sheet.specs.Walk.{Passed, ReadTo, pageFits}
+use Rattle.sheet.proofs.Readable.{RowOk, row-says, offset-first, offset-next, directive-list}
 
 pub passed-none : (s : List ℕ) → Passed s 0
 unfolding anyBelow
@@ -35,6 +36,26 @@ passed-to s k m h rows = none-any m (λ j. isFault (rowFault s j)) .1 (λ j l. g
     go : (j : ℕ) → j < m → (b : Bool) → ltb j k ≡ b → isFault (rowFault s j) ≡ false
     go j l true e = none-any k (λ j. isFault (rowFault s j)) .0 h j (ltb-true j k e)
     go j l false e = rows j (ltb-false j k e) l
+
+-- ---- as far as the rows were read
+
+pub read-none : (s : List ℕ) → bodiesAt (headOf s) ≤ length s → ReadTo s (record { row = 0; at = bodiesAt (headOf s) })
+read-none s l = record { at = ap (λ (a : ℕ). record { row = 0; at = a }) (sym (offset-first s)); high = omega arith; room = l; passed = passed-none s }
+
+-- one row more, with no fault of reading
+pub read-more : (s : List ℕ) (c : Cursor) → ReadTo s c → c .row < rowCount (headOf s) → RowOk s (c .row)
+    → ReadTo s (record { row = c .row + 1; at = c .at + rowLength s (c .row) })
+read-more s c r l ok =
+    let e : c .at ≡ offsetOf s (c .row) = ap (λ (x : Cursor). x .at) (r .at) in
+    let n = offset-next s (c .row) in
+    let o = ok .room in
+    let next : c .at + rowLength s (c .row) ≡ offsetOf s (c .row + 1) = omega arith in
+    record {
+      at = ap (λ (a : ℕ). record { row = c .row + 1; at = a }) next;
+      high = omega arith;
+      room = omega arith;
+      passed = passed-more s (c .row) (r .passed) (row-says s (c .row) .1 ok);
+    }
 
 -- a page of data among the directives whose body lies in the sheet
 pub page-passes : (s : List ℕ) (k : ℕ) → headOf s .platforms + headOf s .initializations ≤ k → offsetOf s k ≤ length s → pageFits s k (offsetOf s k) ≡ true

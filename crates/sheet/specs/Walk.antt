@@ -39,3 +39,10 @@ pub record PagesRead (s : List ℕ) (from : ℕ) (c : Cursor) : Type 0 where
   pub high : c .row ≤ rowCount (headOf s)
   pub room : c .at ≤ length s
   pub rows : (k : ℕ) → from ≤ k → k < c .row → isFault (rowFault s k) ≡ false
+
+-- the cursor stands at row k or behind the last row, its body starts in the sheet, and no row before it has a fault of reading
+pub record ReadTo (s : List ℕ) (c : Cursor) : Type 0 where
+  pub at : c ≡ cursorAt s (c .row)
+  pub high : c .row ≤ rowCount (headOf s)
+  pub room : c .at ≤ length s
+  pub passed : Passed s (c .row)

@@ -97,7 +97,7 @@ impl SheetHead {
         }
     }
 
-    fn page_size_fault(self) -> Fault
+    pub fn page_size_fault(self) -> Fault
         ensures { λ r. ⌜ r ≡ pageSizeFault self ⌝ }
     {
         let size = self.revision().page_size();
@@ -106,7 +106,7 @@ impl SheetHead {
 }
 
 // 1 (under 16 bytes), 2, 3 or 1 (the table ends early).
-fn start_fault(s: &[u8]) -> Fault
+pub fn start_fault(s: &[u8]) -> Fault
     ensures { λ r. ⌜ r ≡ startFault limits (now (s .entry)) ⌝ }
 {
     let n = s.len();
