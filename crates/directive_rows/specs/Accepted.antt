@@ -1,0 +1,45 @@
+-- How far the directive rows of a byte string are in order, and what the rows passed tell.
+use Prim.Native.Nat.{ℕ, _+_, _-_, _≤_}
+use mathlib.Core.Bool.{false}
+use mathlib.Core.List.{List}
+use mathlib.Core.Path.{_≡_}
+use lib.ListN.{length}
+use Rattle.rows.specs.Below.{anyBelow}
+use Rattle.rows.specs.Rows.{before}
+use Rattle.igvm_defs.specs.Refusals.{isFault}
+use Rattle.sheet.specs.declared.Cursor.{Cursor}
+use Rattle.sheet.specs.Head.{headOf}
+use Rattle.sheet.specs.Walk.{ReadTo}
+use Rattle.headers.specs.Headers.{sheetHeaders}
+use Rattle.rules.specs.Verdict.{directiveFaults}
+use Rattle.directives.specs.Record.{HoldsContexts}
+use Rattle.directive_rows.specs.Sound.{stateOf}
+
+-- how many rows stand before the directive rows
+abbrev pub firstDirective : List ℕ → ℕ
+firstDirective s = headOf s .platforms + headOf s .initializations
+
+-- no directive row before the cursor's has a fault, of reading or by the rules, and the masks are those of the contexts among these rows
+pub record DirectivesAccepted (s : List ℕ) (c : Cursor) (contexts : List ℕ) : Type 0 where
+  pub read : ReadTo s c
+  pub low : firstDirective s ≤ c .row
+  pub good : anyBelow (c .row - firstDirective s) (λ i. isFault (directiveFaults (sheetHeaders s) i)) ≡ false
+  pub holds : HoldsContexts contexts (before (c .row - firstDirective s) (sheetHeaders s .directives))
+
+-- what the directive rows before row k of the sheet tell of an area
+abbrev pub stateBefore : List ℕ → ℕ → ℕ → ℕ
+stateBefore s k = stateOf (before (k - firstDirective s) (sheetHeaders s .directives))
+
+-- from one cursor to a later one: the rows between are in order, and change nothing in what is known of contexts and areas
+pub record Onward (s : List ℕ) (c d : Cursor) : Type 0 where
+  pub low : c .row ≤ d .row
+  pub first : firstDirective s ≤ d .row
+  pub read : ReadTo s d
+  pub accepted : (contexts : List ℕ) → DirectivesAccepted s c contexts → DirectivesAccepted s d contexts
+  pub areas : (area : ℕ) → stateBefore s (d .row) area ≡ stateBefore s (c .row) area
+
+-- no directive row before the cursor's has a fault, and none names an area
+pub record PlainAccepted (s : List ℕ) (c : Cursor) (contexts : List ℕ) : Type 0 where
+  pub rows : DirectivesAccepted s c contexts
+  pub areas : (area : ℕ) → stateBefore s (c .row) area ≡ 0
+  pub masks : length contexts ≡ 3

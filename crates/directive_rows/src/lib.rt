@@ -1,0 +1,195 @@
+// The directive rows of a sheet, from its bytes, as far as they are in order: one pass, one arm for each kind. A row that is not in order, or of which this
+// pass can't tell, is where it ends; what is wrong with such a row is for the pass over directive headers to say.
+ghost use mathlib.Core.Path.{_≡_};
+ghost use mathlib.Core.Bool.{true, false, _&&_, _||_};
+ghost use Prim.Native.Nat.{ℕ, _+_, _-_, _≤_};
+ghost use lib.Dec.{eqb};
+ghost use lib.ListN.{length, getD};
+ghost use Rattle.le.specs.Le.{byteAt, leAt};
+ghost use Rattle.rows.specs.Rows.{Rows, before};
+ghost use Rattle.igvm_defs.specs.declared.Arch.{Arch};
+ghost use Rattle.igvm_defs.specs.Revision.{isX64};
+ghost use Rattle.masks.specs.Masks.{shares};
+ghost use Rattle.sheet.specs.Head.{headOf, rowCount, bodiesAt};
+ghost use Rattle.sheet.specs.Walk.{ReadTo};
+ghost use Rattle.initialization_header.specs.declared.IgvmInitializationHeader.{IgvmInitializationHeader};
+ghost use Rattle.directive_header.specs.declared.IgvmDirectiveHeader.{IgvmDirectiveHeader};
+ghost use Rattle.headers.specs.Headers.{sheetHeaders};
+ghost use Rattle.area_table.specs.AreaTable.{HoldsAreas};
+ghost use Rattle.directive_rows.specs.Sound.{Sound, VbsContext, PlainRow, NamedRow, HoldsTables, stateOf};
+ghost use Rattle.directive_rows.specs.Accepted.{firstDirective, DirectivesAccepted, Onward, PlainAccepted, stateBefore};
+use sheet::Cursor;
+
+// ---- a row's body
+
+// 32: an address on a page, a type up to 3, at most 4,096 bytes of data.
+fn page_data(b: &[u8]) -> bool
+    ensures { λ r. ⌜ ((arch : Arch) → r ≡ true → Sound arch 32 (now (b .entry))) ⌝ }
+{
+    let n = b.len();
+    if n < 18 {
+        return false;
+    }
+    if 4114 < n {
+        return false;
+    }
+    le::u64_at(b, 0) % 4096 + ((le::u16_at(b, 16) / 4) as u64) == 0
+}
+
+// 33: its bytes on a page, and no more initial data than that.
+fn parameter_area(b: &[u8]) -> bool
+    ensures { λ r. ⌜ ((arch : Arch) → r ≡ true → Sound arch 33 (now (b .entry))) × (r ≡ true → 12 ≤ length (now (b .entry))) ⌝ }
+{
+    let n = b.len();
+    if n < 12 {
+        return false;
+    }
+    let bytes = le::u64_at(b, 0);
+    addresses::on_page(bytes) & ((n - 12) as u64 <= bytes)
+}
+
+// 44: protectable 0 or 1, address and bytes on a page.
+fn required_memory(b: &[u8]) -> bool
+    ensures { λ r. ⌜ ((arch : Arch) → r ≡ true → Sound arch 44 (now (b .entry))) ⌝ }
+{
+    if b.len() != 17 {
+        return false;
+    }
+    (b[16] <= 1)
+        & addresses::on_page(le::u64_at(b, 0))
+        & addresses::on_page(le::u32_at(b, 12) as u64)
+}
+
+// 45: an address on a page.
+fn snp_vp_context(b: &[u8]) -> bool
+    ensures { λ r. ⌜ ((arch : Arch) → r ≡ true → Sound arch 45 (now (b .entry))) ⌝ }
+{
+    if b.len() < 14 {
+        return false;
+    }
+    addresses::on_page(le::u64_at(b, 0))
+}
+
+// 51: an address on a page.
+fn error_range(b: &[u8]) -> bool
+    ensures { λ r. ⌜ ((arch : Arch) → r ≡ true → Sound arch 51 (now (b .entry))) ⌝ }
+{
+    if b.len() != 16 {
+        return false;
+    }
+    addresses::on_page(le::u64_at(b, 0))
+}
+
+fn wide(x: u8) -> usize
+    ensures { λ r. ⌜ r ≡ x ⌝ }
+{
+    x as usize
+}
+
+// 47 and 48, where the kind stands with the architecture: a VTL up to 2, whose mask gets the context's bits.
+fn vbs_context(b: &[u8], stands: bool, contexts: &mut [u32; 3]) -> bool
+    requires { ⌜ length (now contexts) ≡ 3 ⌝ }
+    ensures { λ r. ⌜ (r ≡ true → (stands ≡ true) × VbsContext (now (b .entry)) (now (contexts .entry)) (now (contexts .exit))) ⌝ }
+    ensures { λ r. ⌜ (r ≡ false → now (contexts .exit) ≡ now (contexts .entry)) × (length (now (contexts .exit)) ≡ 3) ⌝ }
+{
+    if !stands {
+        return false;
+    }
+    if b.len() < 5 {
+        return false;
+    }
+    let v = wide(b[4]);
+    if 2 < v {
+        return false;
+    }
+    contexts[v] = contexts[v] | le::u32_at(b, 0);
+    true
+}
+
+// A row that names no area: its length, its codes and its tests.
+fn plain_row(kind: u32, b: &[u8], x64: bool, contexts: &mut [u32; 3]) -> bool
+    requires { ⌜ length (now contexts) ≡ 3 ⌝ }
+    ensures { λ r. ⌜ ((arch : Arch) → x64 ≡ isX64 arch → r ≡ true → PlainRow arch kind (now (b .entry)) (now (contexts .entry)) (now (contexts .exit))) ⌝ }
+    ensures { λ r. ⌜ (r ≡ false → now (contexts .exit) ≡ now (contexts .entry)) × (length (now (contexts .exit)) ≡ 3) ⌝ }
+{
+    match kind {
+        32 => page_data(b),
+        44 => required_memory(b),
+        45 => snp_vp_context(b),
+        46 => x64 & (6 <= b.len()),
+        47 => vbs_context(b, x64, contexts),
+        48 => vbs_context(b, !x64, contexts),
+        49 => !x64 & (6 <= b.len()),
+        51 => error_range(b),
+        52 => 4 <= b.len(),
+        53 => 4 <= b.len(),
+        _ => false,
+    }
+}
+
+// ---- the rows
+
+// Past the pages in order from the cursor on.
+fn past_pages(s: &[u8], from: Cursor, end: usize) -> Cursor
+    requires { ⌜ (bodiesAt (headOf (now s)) ≤ length (now s)) × ReadTo (now s) from × (firstDirective (now s) ≤ from .row) × (end ≡ rowCount (headOf (now s))) ⌝ }
+    ensures { λ r. ⌜ Onward (now (s .entry)) from r ⌝ }
+{
+    let mut c = from;
+    while c.row < end {
+        let k = c.row;
+        let at = c.at;
+        let len = sheet::length_at(s, k);
+        if s.len() - at < len {
+            return c;
+        }
+        if sheet::kind_at(s, k) != 32 {
+            return c;
+        }
+        if !page_data(sheet::part(s, at, len)) {
+            return c;
+        }
+        c = Cursor {
+            row: k + 1,
+            at: at + len,
+        };
+    }
+    c
+}
+
+// Most rows are pages, and they come one behind the other: a loop of their own takes them.
+fn past_like(s: &[u8], kind: u32, from: Cursor, end: usize) -> Cursor
+    requires { ⌜ (bodiesAt (headOf (now s)) ≤ length (now s)) × ReadTo (now s) from × (firstDirective (now s) ≤ from .row) × (end ≡ rowCount (headOf (now s))) ⌝ }
+    ensures { λ r. ⌜ Onward (now (s .entry)) from r ⌝ }
+{
+    if kind == 32 {
+        return past_pages(s, from, end);
+    }
+    from
+}
+
+// Past the rows in order that name no area.
+fn past_plain(s: &[u8], from: Cursor, end: usize, x64: bool, contexts: &mut [u32; 3]) -> Cursor
+    requires { ⌜ (bodiesAt (headOf (now s)) ≤ length (now s)) × (end ≡ rowCount (headOf (now s))) × (x64 ≡ isX64 (sheetHeaders (now s) .arch)) ⌝ }
+    requires { ⌜ PlainAccepted (now s) from (now contexts) ⌝ }
+    ensures { λ r. ⌜ PlainAccepted (now (s .entry)) r (now (contexts .exit)) ⌝ }
+{
+    let mut c = from;
+    while c.row < end {
+        let k = c.row;
+        let at = c.at;
+        let kind = sheet::kind_at(s, k);
+        let len = sheet::length_at(s, k);
+        if s.len() - at < len {
+            return c;
+        }
+        if !plain_row(kind, sheet::part(s, at, len), x64, contexts) {
+            return c;
+        }
+        let next = Cursor {
+            row: k + 1,
+            at: at + len,
+        };
+        c = past_like(s, kind, next, end);
+    }
+    c
+}
