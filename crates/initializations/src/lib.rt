@@ -3,6 +3,7 @@ ghost use mathlib.Core.Path.{_≡_};
 ghost use mathlib.Core.Bool.{true, false, not, cond, _&&_};
 ghost use mathlib.Core.Option.{none, some};
 ghost use Prim.Native.Nat.{ℕ, _+_, _≤_};
+ghost use lib.ListN.{length};
 ghost use Rattle.rows.specs.Rows.{Rows, before};
 ghost use Rattle.platform_header.specs.declared.IgvmPlatformHeader.{IgvmPlatformHeader};
 ghost use Rattle.initialization_header.specs.declared.IgvmInitializationHeader.{IgvmInitializationHeader};
@@ -142,8 +143,8 @@ pub struct RelocRegions {
 }
 
 // Some of the first n regions is a page table, as r is, and shares a bit with it.
-fn any_tables_share<'a>(r: Region, masks: &'a [u32; 64], tables: &'a [bool; 64], n: usize) -> bool
-    requires { ⌜ n ≤ 64 ⌝ }
+pub fn any_tables_share<'a>(r: Region, masks: &'a [u32], tables: &'a [bool], n: usize) -> bool
+    requires { ⌜ (n ≤ length (now masks)) × (n ≤ length (now tables)) ⌝ }
     ensures { λ s. ⌜ s ≡ anyTablesShare r (now (masks .entry)) (now (tables .entry)) n ⌝ }
 {
     if !r.page_table {
@@ -166,14 +167,14 @@ fn overlaps(r: Region, mask: u32, gpa: u64, size: u64) -> bool
 }
 
 // Some of the first n regions shares a bit with r, and an address.
-fn any_overlap<'a>(
+pub fn any_overlap<'a>(
     r: Region,
-    masks: &'a [u32; 64],
-    gpas: &'a [u64; 64],
-    sizes: &'a [u64; 64],
+    masks: &'a [u32],
+    gpas: &'a [u64],
+    sizes: &'a [u64],
     n: usize,
 ) -> bool
-    requires { ⌜ n ≤ 64 ⌝ }
+    requires { ⌜ (n ≤ length (now masks)) × (n ≤ length (now gpas)) × (n ≤ length (now sizes)) ⌝ }
     ensures { λ s. ⌜ s ≡ anyOverlap r (now (masks .entry)) (now (gpas .entry)) (now (sizes .entry)) n ⌝ }
 {
     let mut i = 0;
@@ -289,15 +290,15 @@ impl Reach {
 }
 
 // As `any_overlap`, but for a region apart from what the regions lie within.
-fn any_near_overlap<'a>(
+pub fn any_near_overlap<'a>(
     reach: Reach,
     r: Region,
-    masks: &'a [u32; 64],
-    gpas: &'a [u64; 64],
-    sizes: &'a [u64; 64],
+    masks: &'a [u32],
+    gpas: &'a [u64],
+    sizes: &'a [u64],
     n: usize,
 ) -> bool
-    requires { ⌜ n ≤ 64 ⌝ }
+    requires { ⌜ (n ≤ length (now masks)) × (n ≤ length (now gpas)) × (n ≤ length (now sizes)) ⌝ }
     ensures { λ s. ⌜ s ≡ (not (apartFrom reach r) && anyOverlap r (now (masks .entry)) (now (gpas .entry)) (now (sizes .entry)) n) ⌝ }
 {
     if reach.apart(r) {
@@ -308,15 +309,15 @@ fn any_near_overlap<'a>(
 
 // Some page table of the first n regions shares a bit with the mask and contains the address.
 pub fn any_table_holds<'a>(
-    masks: &'a [u32; 64],
-    gpas: &'a [u64; 64],
-    sizes: &'a [u64; 64],
-    tables: &'a [bool; 64],
+    masks: &'a [u32],
+    gpas: &'a [u64],
+    sizes: &'a [u64],
+    tables: &'a [bool],
     n: usize,
     mask: u32,
     gpa: u64,
 ) -> bool
-    requires { ⌜ n ≤ 64 ⌝ }
+    requires { ⌜ (n ≤ length (now masks)) × (n ≤ length (now gpas)) × (n ≤ length (now sizes)) × (n ≤ length (now tables)) ⌝ }
     ensures { λ r. ⌜ r ≡ anyTableHolds mask gpa (now (masks .entry)) (now (gpas .entry)) (now (sizes .entry)) (now (tables .entry)) n ⌝ }
 {
     let mut i = 0;

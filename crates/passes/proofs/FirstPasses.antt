@@ -211,7 +211,7 @@ module _ {s : List ℕ} {p : Platforms} {first n : ℕ} {a : Arch} {c : Cursor} 
         arch = r .arch;
         reached = rows-next s first n (initializationFaults (sheetHeaders s)) c d i (r .reached) l (rw (← step .told) e) at;
         lengths = let (m, g, z, p, v, t) = r .lengths in (simp length-set m, simp length-set g, simp length-set z, simp length-set p, simp length-set v, simp length-set t);
-        holds = holds-stored q new (initialization-room l .0) (r .lengths) (sheetHeaders s .initializations) i found (r .holds) (step .region);
+        holds = holds-stored q new (let room = initialization-room l .0 in let lengths = r .lengths in omega arith) (sheetHeaders s .initializations) i found (r .holds) (step .region);
         covers = covers-more reach wider (sheetHeaders s .initializations) i found new (r .covers) (step .region) apart;
       }
 

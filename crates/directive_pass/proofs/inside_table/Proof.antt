@@ -18,7 +18,7 @@ any-table-holds-requires : tie.Need-any-table-holds-requires
 any-table-holds-requires c κs = search needs
 
 returns : tie.Need-returns
-returns c = λ xs held. rw (c .before .before .h .given .1) (c .any-table-holds .ensures ∙ held _ _)
+returns c = λ xs held. rw (c .before .before .before .before .before .before .h .given .1) (c .any-table-holds .ensures ∙ held _ _)
 
 returns-2 : tie.Need-returns-2
 returns-2 c = λ xs held. sym (inside-table xs (c .before .args .h) .1 (λ p e j r l o. absurd (miss others 18 tt (rw e at (c .match .keys2)))))

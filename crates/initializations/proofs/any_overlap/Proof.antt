@@ -21,20 +21,20 @@ loop-holds c = (search needs, refl)
 mul-overlaps : tie.Need-mul-overlaps Inv-loop μ-loop
 mul-overlaps c = search needs
 
-element-copy-out-overlaps : tie.Need-element-copy-out-overlaps Inv-loop μ-loop
-element-copy-out-overlaps c = search needs
+shared-slice-read-overlaps : tie.Need-shared-slice-read-overlaps Inv-loop μ-loop
+shared-slice-read-overlaps c = search needs
 
 mul-overlaps-2 : tie.Need-mul-overlaps-2 Inv-loop μ-loop
 mul-overlaps-2 c = search needs
 
-element-copy-out-overlaps-2 : tie.Need-element-copy-out-overlaps-2 Inv-loop μ-loop
-element-copy-out-overlaps-2 c = search needs
+shared-slice-read-overlaps-2 : tie.Need-shared-slice-read-overlaps-2 Inv-loop μ-loop
+shared-slice-read-overlaps-2 c = search needs
 
 mul-overlaps-3 : tie.Need-mul-overlaps-3 Inv-loop μ-loop
 mul-overlaps-3 c = search needs
 
-element-copy-out-overlaps-3 : tie.Need-element-copy-out-overlaps-3 Inv-loop μ-loop
-element-copy-out-overlaps-3 c = search needs
+shared-slice-read-overlaps-3 : tie.Need-shared-slice-read-overlaps-3 Inv-loop μ-loop
+shared-slice-read-overlaps-3 c = search needs
 
 overlaps-requires : tie.Need-overlaps-requires Inv-loop μ-loop
 overlaps-requires c κs = search needs
@@ -50,7 +50,7 @@ loop-again c = (search needs, rw (any-more, ← c .before .before .before .befor
 
 returns : tie.Need-returns Inv-loop μ-loop
 returns c =
-    let e : c .before .loop .i ≡ c .before .before .args .n = omega arith in
+    let e : c .before .loop .i ≡ c .before .before .before .before .before .args .n = omega arith in
     rw e at (c .before .loop .inv .1)
 
 pub any-overlap-spec : {M : Type 1} → statement M
@@ -61,11 +61,11 @@ any-overlap-spec =
     μ-loop
     loop-holds
     mul-overlaps
-    element-copy-out-overlaps
+    shared-slice-read-overlaps
     mul-overlaps-2
-    element-copy-out-overlaps-2
+    shared-slice-read-overlaps-2
     mul-overlaps-3
-    element-copy-out-overlaps-3
+    shared-slice-read-overlaps-3
     overlaps-requires
     add-i
     loop-less

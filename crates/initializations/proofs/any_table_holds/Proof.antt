@@ -21,14 +21,14 @@ loop-holds : tie.Need-loop-holds Inv-loop μ-loop
 unfolding anyBelow
 loop-holds c = (search needs, refl)
 
-element-copy-out-found : tie.Need-element-copy-out-found Inv-loop μ-loop
-element-copy-out-found c = search needs
+shared-slice-read-found : tie.Need-shared-slice-read-found Inv-loop μ-loop
+shared-slice-read-found c = search needs
 
 mul-shares : tie.Need-mul-shares Inv-loop μ-loop
 mul-shares c = search needs
 
-element-copy-out-shares : tie.Need-element-copy-out-shares Inv-loop μ-loop
-element-copy-out-shares c = search needs
+shared-slice-read-shares : tie.Need-shared-slice-read-shares Inv-loop μ-loop
+shared-slice-read-shares c = search needs
 
 shares-requires : tie.Need-shares-requires Inv-loop μ-loop
 shares-requires c κs = search needs
@@ -36,14 +36,14 @@ shares-requires c κs = search needs
 mul-contains : tie.Need-mul-contains Inv-loop μ-loop
 mul-contains c = search needs
 
-element-copy-out-contains : tie.Need-element-copy-out-contains Inv-loop μ-loop
-element-copy-out-contains c = search needs
+shared-slice-read-contains : tie.Need-shared-slice-read-contains Inv-loop μ-loop
+shared-slice-read-contains c = search needs
 
 mul-contains-2 : tie.Need-mul-contains-2 Inv-loop μ-loop
 mul-contains-2 c = search needs
 
-element-copy-out-contains-2 : tie.Need-element-copy-out-contains-2 Inv-loop μ-loop
-element-copy-out-contains-2 c = search needs
+shared-slice-read-contains-2 : tie.Need-shared-slice-read-contains-2 Inv-loop μ-loop
+shared-slice-read-contains-2 c = search needs
 
 contains-requires : tie.Need-contains-requires Inv-loop μ-loop
 contains-requires c κs = search needs
@@ -57,12 +57,12 @@ loop-less c = search needs
 loop-again : tie.Need-loop-again Inv-loop μ-loop
 loop-again c =
     let l = c .before .before .before .before .before .before .before .loop in
-    let a = c .before .before .before .before .before .before .before .before .args in
+    let a = c .before .before .before .before .before .before .before .before .before .before .before .before .args in
     (search needs, rw any-more (ap₂ (λ (x y : Bool). x || y) (l .inv .1) (ap₂ (λ (x y : Bool). getD (now (a .tables)) (l .i) false && x && y) (c .before .before .before .shares .ensures) (c .contains .ensures))))
 
 returns : tie.Need-returns Inv-loop μ-loop
 returns c =
-    let e : c .before .loop .i ≡ c .before .before .args .n = omega arith in
+    let e : c .before .loop .i ≡ c .before .before .before .before .before .before .args .n = omega arith in
     rw e at (c .before .loop .inv .1)
 
 pub any-table-holds-spec : {M : Type 1} → statement M
@@ -72,14 +72,14 @@ any-table-holds-spec =
     Inv-loop
     μ-loop
     loop-holds
-    element-copy-out-found
+    shared-slice-read-found
     mul-shares
-    element-copy-out-shares
+    shared-slice-read-shares
     shares-requires
     mul-contains
-    element-copy-out-contains
+    shared-slice-read-contains
     mul-contains-2
-    element-copy-out-contains-2
+    shared-slice-read-contains-2
     contains-requires
     add-i
     loop-less

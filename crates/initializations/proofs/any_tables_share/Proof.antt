@@ -17,20 +17,20 @@ abbrev μ-loop : tie.MeasureT-loop
 μ-loop r masks tables n i₀ found₀ i found = n - i
 
 returns : tie.Need-returns Inv-loop μ-loop
-returns c = let a = c .before .before .args in sym (none-any (a .n) _ .1 (λ i l. rw (not-true (a .r .«page_table») (c .if1 .taken))))
+returns c = let a = c .before .before .before .before .args in sym (none-any (a .n) _ .1 (λ i l. rw (not-true (a .r .«page_table») (c .if1 .taken))))
 
 loop-holds : tie.Need-loop-holds Inv-loop μ-loop
 unfolding anyBelow
 loop-holds c = (search needs, refl)
 
-element-copy-out-found : tie.Need-element-copy-out-found Inv-loop μ-loop
-element-copy-out-found c = search needs
+shared-slice-read-found : tie.Need-shared-slice-read-found Inv-loop μ-loop
+shared-slice-read-found c = search needs
 
 mul-shares : tie.Need-mul-shares Inv-loop μ-loop
 mul-shares c = search needs
 
-element-copy-out-shares : tie.Need-element-copy-out-shares Inv-loop μ-loop
-element-copy-out-shares c = search needs
+shared-slice-read-shares : tie.Need-shared-slice-read-shares Inv-loop μ-loop
+shared-slice-read-shares c = search needs
 
 shares-requires : tie.Need-shares-requires Inv-loop μ-loop
 shares-requires c κs = search needs
@@ -44,12 +44,12 @@ loop-less c = search needs
 loop-again : tie.Need-loop-again Inv-loop μ-loop
 loop-again c =
     let e = c .before .before .before .before .before in
-    let is-table = not-false (e .before .before .args .r .«page_table») (e .if1 .left) in
+    let is-table = not-false (e .before .before .before .before .args .r .«page_table») (e .if1 .left) in
     (search needs, rw any-more (ap₂ (λ (x y : Bool). x || y) (c .before .before .before .before .loop .inv .1) (rw is-table (cc))))
 
 returns-2 : tie.Need-returns-2 Inv-loop μ-loop
 returns-2 c =
-    let e : c .before .loop .i ≡ c .before .before .before .before .args .n = omega arith in
+    let e : c .before .loop .i ≡ c .before .before .before .before .before .before .args .n = omega arith in
     rw e at (c .before .loop .inv .1)
 
 pub any-tables-share-spec : {M : Type 1} → statement M
@@ -60,9 +60,9 @@ any-tables-share-spec =
     μ-loop
     returns
     loop-holds
-    element-copy-out-found
+    shared-slice-read-found
     mul-shares
-    element-copy-out-shares
+    shared-slice-read-shares
     shares-requires
     add-i
     loop-less

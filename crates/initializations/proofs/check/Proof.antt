@@ -63,8 +63,8 @@ row-fault-requires c κs = search needs
 
 returns : tie.Need-returns
 returns c ps xs i hp e held covers =
-    let s = c .before .before .before in
-    let n = s .before .before in
+    let s = c .before .before .before .before .before .before in
+    let n = s .before .before .before .before in
     let v = n .before .before .before in
     let a = v .before .args in
     let new = n .region-of .result in
