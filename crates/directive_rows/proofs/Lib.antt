@@ -1,2 +1,3 @@
 pub mod SoundLaws
 pub mod AcceptedLaws
+pub mod AreaRowLaws

@@ -62,10 +62,14 @@ stateAfter earlier h area = areaState (any (allocates area) earlier || allocates
 abbrev pub HoldsTables : List ℕ → List ℕ → List ℕ → List Bool → ℕ → Rows IgvmInitializationHeader → Type 0
 HoldsTables masks gpas sizes tables n xs = (mask gpa : ℕ) → anyTableHolds mask gpa masks gpas sizes tables n ≡ any (regionPasses (tableHolds mask gpa)) xs
 
--- any row, after these initialization rows and these directive rows
-pub record NamedRow (arch : Arch) (is : Rows IgvmInitializationHeader) (earlier : Rows IgvmDirectiveHeader) (kind : ℕ) (b contexts next few areas states : List ℕ) : Type 0 where
+-- a row that names an area, after these directive rows
+pub record AreaRow (arch : Arch) (earlier : Rows IgvmDirectiveHeader) (kind : ℕ) (b few areas states : List ℕ) : Type 0 where
   pub sound : Sound arch kind b
   pub area : badArea earlier (directiveOf kind b) ≡ false
+  pub known : HoldsAreas few areas states (stateAfter earlier (directiveOf kind b))
+
+-- any row, after these initialization rows and these directive rows
+pub record NamedRow (arch : Arch) (is : Rows IgvmInitializationHeader) (earlier : Rows IgvmDirectiveHeader) (kind : ℕ) (b contexts next few areas states : List ℕ) : Type 0 where
+  pub row : AreaRow arch earlier kind b few areas states
   pub table : insideTable is (directiveOf kind b) ≡ false
   pub context : ContextsNext contexts (directiveOf kind b) next
-  pub known : HoldsAreas few areas states (stateAfter earlier (directiveOf kind b))

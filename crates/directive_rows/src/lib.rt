@@ -13,10 +13,13 @@ ghost use Rattle.masks.specs.Masks.{shares};
 ghost use Rattle.sheet.specs.Head.{headOf, rowCount, bodiesAt};
 ghost use Rattle.sheet.specs.Walk.{ReadTo};
 ghost use Rattle.initialization_header.specs.declared.IgvmInitializationHeader.{IgvmInitializationHeader};
+ghost use Rattle.directive_header.specs.Directives.{directiveOf};
+ghost use Rattle.directive_header.specs.Fields.{isParameter};
+ghost use Rattle.rules.specs.Directives.{insideTable};
 ghost use Rattle.directive_header.specs.declared.IgvmDirectiveHeader.{IgvmDirectiveHeader};
 ghost use Rattle.headers.specs.Headers.{sheetHeaders};
 ghost use Rattle.area_table.specs.AreaTable.{HoldsAreas};
-ghost use Rattle.directive_rows.specs.Sound.{Sound, VbsContext, PlainRow, NamedRow, HoldsTables, stateOf};
+ghost use Rattle.directive_rows.specs.Sound.{Sound, VbsContext, PlainRow, AreaRow, NamedRow, HoldsTables, stateOf};
 ghost use Rattle.directive_rows.specs.Accepted.{firstDirective, DirectivesAccepted, Onward, PlainAccepted, stateBefore};
 use sheet::Cursor;
 
@@ -124,6 +127,139 @@ fn plain_row(kind: u32, b: &[u8], x64: bool, contexts: &mut [u32; 3]) -> bool
         52 => 4 <= b.len(),
         53 => 4 <= b.len(),
         _ => false,
+    }
+}
+
+// ---- rows that name an area
+
+// 33: an area that no row named.
+fn parameter_area_row(
+    b: &[u8],
+    few: &mut [u8; area_table::FEW],
+    areas: &mut [u32; area_table::SLOTS],
+    states: &mut [u8; area_table::SLOTS],
+) -> bool
+    ensures { λ r. ⌜ ((arch : Arch) (earlier : Rows IgvmDirectiveHeader) → HoldsAreas (now (few .entry)) (now (areas .entry)) (now (states .entry)) (stateOf earlier) → r ≡ true → AreaRow arch earlier 33 (now (b .entry)) (now (few .exit)) (now (areas .exit)) (now (states .exit))) ⌝ }
+{
+    if !parameter_area(b) {
+        return false;
+    }
+    let area = le::u32_at(b, 8);
+    if area_table::state_of(few, areas, states, area) != 0 {
+        return false;
+    }
+    area_table::put(few, areas, states, area, 1);
+    true
+}
+
+// 34 to 43: an area that is allocated.
+fn parameter_row(
+    b: &[u8],
+    few: &[u8; area_table::FEW],
+    areas: &[u32; area_table::SLOTS],
+    states: &[u8; area_table::SLOTS],
+) -> bool
+    ensures { λ r. ⌜ ((arch : Arch) (earlier : Rows IgvmDirectiveHeader) (kind : ℕ) → isParameter kind ≡ true → HoldsAreas (now (few .entry)) (now (areas .entry)) (now (states .entry)) (stateOf earlier) → r ≡ true → AreaRow arch earlier kind (now (b .entry)) (now (few .entry)) (now (areas .entry)) (now (states .entry))) ⌝ }
+{
+    if b.len() != 8 {
+        return false;
+    }
+    area_table::state_of(few, areas, states, le::u32_at(b, 0)) == 1
+}
+
+// 50: an address on a page, an area that is allocated.
+fn insert_row(
+    b: &[u8],
+    few: &mut [u8; area_table::FEW],
+    areas: &mut [u32; area_table::SLOTS],
+    states: &mut [u8; area_table::SLOTS],
+) -> bool
+    ensures { λ r. ⌜ ((arch : Arch) (earlier : Rows IgvmDirectiveHeader) → HoldsAreas (now (few .entry)) (now (areas .entry)) (now (states .entry)) (stateOf earlier) → r ≡ true → AreaRow arch earlier 50 (now (b .entry)) (now (few .exit)) (now (areas .exit)) (now (states .exit))) × (r ≡ true → length (now (b .entry)) ≡ 16) ⌝ }
+{
+    if b.len() != 16 {
+        return false;
+    }
+    let area = le::u32_at(b, 12);
+    if !addresses::on_page(le::u64_at(b, 0)) {
+        return false;
+    }
+    if area_table::state_of(few, areas, states, area) != 1 {
+        return false;
+    }
+    area_table::put(few, areas, states, area, 2);
+    true
+}
+
+// 50: no page table of the first n regions holds the address.
+fn clear_of_tables<'a>(
+    b: &'a [u8],
+    masks: &'a [u32],
+    gpas: &'a [u64],
+    sizes: &'a [u64],
+    tables: &'a [bool],
+    n: usize,
+) -> bool
+    requires { ⌜ (n ≤ length (now masks)) × (n ≤ length (now gpas)) × (n ≤ length (now sizes)) × (n ≤ length (now tables)) ⌝ }
+    ensures { λ r. ⌜ ((is : Rows IgvmInitializationHeader) → HoldsTables (now (masks .entry)) (now (gpas .entry)) (now (sizes .entry)) (now (tables .entry)) n is → r ≡ true → insideTable is (directiveOf 50 (now (b .entry))) ≡ false) ⌝ }
+{
+    if b.len() != 16 {
+        return false;
+    }
+    !initializations::any_table_holds(
+        masks,
+        gpas,
+        sizes,
+        tables,
+        n,
+        le::u32_at(b, 8),
+        le::u64_at(b, 0),
+    )
+}
+
+fn parameter_insert_row<'a>(
+    b: &'a [u8],
+    masks: &'a [u32],
+    gpas: &'a [u64],
+    sizes: &'a [u64],
+    tables: &'a [bool],
+    n: usize,
+    few: &mut [u8; area_table::FEW],
+    areas: &mut [u32; area_table::SLOTS],
+    states: &mut [u8; area_table::SLOTS],
+) -> bool
+    requires { ⌜ (n ≤ length (now masks)) × (n ≤ length (now gpas)) × (n ≤ length (now sizes)) × (n ≤ length (now tables)) ⌝ }
+    ensures { λ r. ⌜ ((arch : Arch) (is : Rows IgvmInitializationHeader) (earlier : Rows IgvmDirectiveHeader) → HoldsTables (now (masks .entry)) (now (gpas .entry)) (now (sizes .entry)) (now (tables .entry)) n is → HoldsAreas (now (few .entry)) (now (areas .entry)) (now (states .entry)) (stateOf earlier) → r ≡ true → AreaRow arch earlier 50 (now (b .entry)) (now (few .exit)) (now (areas .exit)) (now (states .exit)) × (insideTable is (directiveOf 50 (now (b .entry))) ≡ false)) ⌝ }
+{
+    if !clear_of_tables(b, masks, gpas, sizes, tables, n) {
+        return false;
+    }
+    insert_row(b, few, areas, states)
+}
+
+// A row of any kind: its length, its codes and its tests. The first n regions of the arrays tell the page tables.
+fn named_row<'a>(
+    kind: u32,
+    b: &'a [u8],
+    x64: bool,
+    masks: &'a [u32],
+    gpas: &'a [u64],
+    sizes: &'a [u64],
+    tables: &'a [bool],
+    n: usize,
+    contexts: &mut [u32; 3],
+    few: &mut [u8; area_table::FEW],
+    areas: &mut [u32; area_table::SLOTS],
+    states: &mut [u8; area_table::SLOTS],
+) -> bool
+    requires { ⌜ (length (now contexts) ≡ 3) × ((n ≤ length (now masks)) × (n ≤ length (now gpas)) × (n ≤ length (now sizes)) × (n ≤ length (now tables))) ⌝ }
+    ensures { λ r. ⌜ ((arch : Arch) (is : Rows IgvmInitializationHeader) (earlier : Rows IgvmDirectiveHeader) → x64 ≡ isX64 arch → HoldsTables (now (masks .entry)) (now (gpas .entry)) (now (sizes .entry)) (now (tables .entry)) n is → HoldsAreas (now (few .entry)) (now (areas .entry)) (now (states .entry)) (stateOf earlier) → r ≡ true → NamedRow arch is earlier kind (now (b .entry)) (now (contexts .entry)) (now (contexts .exit)) (now (few .exit)) (now (areas .exit)) (now (states .exit))) ⌝ }
+    ensures { λ r. ⌜ (r ≡ false → now (contexts .exit) ≡ now (contexts .entry)) × (length (now (contexts .exit)) ≡ 3) ⌝ }
+{
+    match kind {
+        33 => parameter_area_row(b, few, areas, states),
+        34..=43 => parameter_row(b, few, areas, states),
+        50 => parameter_insert_row(b, masks, gpas, sizes, tables, n, few, areas, states),
+        _ => plain_row(kind, b, x64, contexts),
     }
 }
 

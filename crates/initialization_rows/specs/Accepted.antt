@@ -15,10 +15,10 @@ use Rattle.initializations.specs.declared.RelocRegions.{RelocRegions}
 use Rattle.initializations.specs.Record.{HoldsRegions, HoldsRows}
 
 -- no initialization row before the cursor's has a fault, of reading or by the rules, and the record has the regions of these rows, each with its row
-pub record InitializationsAccepted (s : List ℕ) (held : RelocRegions) (rows : List ℕ) (c : Cursor) : Type 0 where
+pub record InitializationsAccepted (s : List ℕ) (held : RelocRegions) (numbers : List ℕ) (c : Cursor) : Type 0 where
   pub read : ReadTo s c
   pub low : headOf s .platforms ≤ c .row
   pub high : c .row ≤ headOf s .platforms + headOf s .initializations
   pub good : anyBelow (c .row - headOf s .platforms) (λ i. isFault (initializationFaults (sheetHeaders s) i)) ≡ false
   pub holds : HoldsRegions held (before (c .row - headOf s .platforms) (sheetHeaders s .initializations))
-  pub rows : HoldsRows (headOf s .platforms) rows held (before (c .row - headOf s .platforms) (sheetHeaders s .initializations))
+  pub rows : HoldsRows (headOf s .platforms) numbers held (before (c .row - headOf s .platforms) (sheetHeaders s .initializations))

@@ -6,20 +6,22 @@ use mathlib.Core.List.{List, [], _∷_, _++_}
 use mathlib.Core.Logic.{_≢_, _↔_, _⊎_, inl, inr}
 use mathlib.Core.Option.{Option, none, some}
 use Prim.Native.Nat.{ℕ, zero, suc, _+_, _-_, _*_, _/_, _%_, _^_, _≤_, _<_, min, max}
-use native.Mathlib.Nat.{two-pow-succ, pow-succ', add-sub-cancel, zero-mul, one-mul, div-div-eq-div-mul, zero-div, eq-zero-or-pos}
+use native.Mathlib.Nat.{two-pow-succ, pow-succ', add-sub-cancel, zero-mul, one-mul, div-div-eq-div-mul, zero-div, div-self, eq-zero-or-pos}
+use native.Mathlib.Decide.{decLt}
 use native.Mathlib.Numerals.{add-one, one-add}
 use native.Mathlib.Omega.{arith}
 use lib.Arith.{bin-ind}
-use lib.Bits.{bitAnd, bitOr, and-comm, and-zero-r, and-step, or-step, and-le-l, and-le-r, or-add-and, and-shr, and-high}
+use lib.Bits.{bitAnd, bitOr, and-comm, and-self, and-zero-r, and-step, or-step, and-le-l, and-le-r, or-add-and, and-shr, and-high}
+use lib.Count as Count
 use lib.Dec.{eqb}
 use lib.ListN.{length, take, getD}
 use lib.Pow.{pow-pos, shl-exact}
 use lib.Seq.{take-suc, take-add}
 use borrow.Author.Tests.{eqb-true, eqb-false, eq-eqb, ne-eqb, not-true}
 use Rattle.rows.specs.Below.{orElse, firstBelow}
-use Rattle.rows.proofs.Bools.{not-both, cond-map}
+use Rattle.rows.proofs.Bools.{not-both, eqb-same, cond-map}
 use Rattle.rows.proofs.BelowLaws.{first-none}
-use Rattle.masks.specs.Masks.{shares, matches, hasBit, bitsBelow, firstMask}
+use Rattle.masks.specs.Masks.{shares, matches, isOneBit, hasBit, bitsBelow, firstMask}
 
 -- ---- shares
 
@@ -163,6 +165,70 @@ shares-bits w m n l = (shares-bit w m n l, λ (k, b, f, g). bit-shares m n k f g
 pub bits-more : (n m : ℕ) → bitsBelow (n + 1) m ≡ bitsBelow n m ++ cond (hasBit m n) (2 ^ n ∷ []) []
 unfolding bitsBelow
 bits-more n m = rw add-one
+
+-- ---- masks of one bit
+
+-- a number with no digit set
+ones-none : (m : ℕ) → Count.ones m ≡ 0 → m ≡ 0
+ones-none = bin-ind (λ (m : ℕ). Count.ones m ≡ 0 → m ≡ 0) (λ _. refl) (λ m half h. let s = Count.ones-step m in let z = half (omega arith) in omega arith)
+
+-- m and m - 1 share no bit: one bit of m is set
+clears : (m : ℕ) → 0 < m → (bitAnd m (m - 1) ≡ 0) ↔ (Count.ones m ≡ 1)
+unfolding Count.ones
+clears = bin-ind (λ (m : ℕ). 0 < m → (bitAnd m (m - 1) ≡ 0) ↔ (Count.ones m ≡ 1)) (λ l. absurd (omega arith)) (λ m half l. go m half l (decLt 0 (m % 2)))
+  where
+    go : (m : ℕ) → (0 < m / 2 → (bitAnd (m / 2) (m / 2 - 1) ≡ 0) ↔ (Count.ones (m / 2) ≡ 1)) → 0 < m → Dec (0 < m % 2)
+        → (bitAnd m (m - 1) ≡ 0) ↔ (Count.ones m ≡ 1)
+    go m half l (yes odd) =
+        let s = and-step m (m - 1) in
+        let o = Count.ones-step m in
+        let e : (m - 1) / 2 ≡ m / 2 = omega arith in
+        let t : bitAnd (m / 2) ((m - 1) / 2) ≡ m / 2 = rw e (and-self (m / 2)) in (
+          λ h. let z : m / 2 ≡ 0 = omega arith in let n : Count.ones (m / 2) ≡ 0 = rw z in omega arith,
+          λ h. let z : m / 2 ≡ 0 = ones-none (m / 2) (omega arith) in omega arith,
+        )
+    go m half l (no even) =
+        let s = and-step m (m - 1) in
+        let o = Count.ones-step m in
+        let e : (m - 1) / 2 ≡ m / 2 - 1 = omega arith in
+        let t : bitAnd (m / 2) ((m - 1) / 2) ≡ bitAnd (m / 2) (m / 2 - 1) = rw e in
+        let f = half (omega arith) in (
+          λ h. let z : Count.ones (m / 2) ≡ 1 = f .0 (omega arith) in omega arith,
+          λ h. let z : bitAnd (m / 2) (m / 2 - 1) ≡ 0 = f .1 (omega arith) in omega arith,
+        )
+
+pub clears-one-bit : (m : ℕ) → 0 < m → eqb (bitAnd m (m - 1)) 0 ≡ isOneBit m
+unfolding isOneBit
+clears-one-bit m l = eqb-same (bitAnd m (m - 1)) 0 (Count.ones m) 1 (clears m l .0) (clears m l .1)
+
+alone : (k m : ℕ) → Count.ones m ≡ 1 → hasBit m k ≡ true → m ≡ 2 ^ k
+unfolding hasBit
+alone zero m o h =
+    let s = Count.ones-step m in
+    let d = has-digit m 0 h in
+    let z = ones-none (m / 2) (omega arith) in
+    omega arith
+alone (suc k) m o h = go (alone k (m / 2)) (half-bit m k ∙ h) (eq-zero-or-pos (Count.ones (m / 2)))
+  where
+    go : (Count.ones (m / 2) ≡ 1 → hasBit (m / 2) k ≡ true → m / 2 ≡ 2 ^ k) → hasBit (m / 2) k ≡ true
+        → (Count.ones (m / 2) ≡ 0) ⊎ (0 < Count.ones (m / 2)) → m ≡ 2 ^ suc k
+    go half high (inl z) =
+        let e = ones-none (m / 2) z in
+        not-both (shares-zero-left (2 ^ k)) (rw e at high)
+    go half high (inr p) =
+        let s = Count.ones-step m in
+        let e = half (omega arith) high in
+        let t = two-pow-succ k in
+        omega arith
+
+-- a mask of one bit that has bit k is that bit
+pub one-bit-alone : (k m : ℕ) → isOneBit m ≡ true → hasBit m k ≡ true → m ≡ 2 ^ k
+unfolding isOneBit
+one-bit-alone k m o h = alone k m (eqb-true (Count.ones m) 1 o) h
+
+-- the mask that is bit k has it
+pub bit-set : (k : ℕ) → hasBit (2 ^ k) k ≡ true
+bit-set k = rw (has-bit, div-self (pow-pos k))
 
 -- ---- firstMask
 

@@ -25,10 +25,14 @@ pub fn matches(given: u32, m: u32) -> bool
     m & given == given
 }
 
+// One bit is set: one less has none of the mask's bits. A count of the bits takes a dozen instructions.
 pub fn is_one_bit(m: u32) -> bool
     ensures { λ r. ⌜ r ≡ isOneBit m ⌝ }
 {
-    u32::count_ones(m) == 1
+    if m == 0 {
+        return false;
+    }
+    m & (m - 1) == 0
 }
 
 // Up to 32 masks of one bit each: the first `count` of the array.

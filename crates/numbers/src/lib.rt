@@ -6,23 +6,20 @@ use answers::Checked;
 use answers::Relocations;
 use answers::Verdict;
 
+// By a `match`: an array of the numbers would be filled and then read at each call.
 pub fn verdict_number(v: Verdict, which: u32) -> u64
     ensures { λ r. ⌜ r ≡ numberOf which (verdictNumbers v) ⌝ }
 {
     let refusal = v.refusal;
-    let numbers = [
-        refusal.number,
-        refusal.row,
-        refusal.detail,
-        v.platforms,
-        v.initializations,
-        v.directives,
-    ];
-    if which < 6 {
-        let i = which as usize;
-        return numbers[i];
+    match which {
+        0 => refusal.number,
+        1 => refusal.row,
+        2 => refusal.detail,
+        3 => v.platforms,
+        4 => v.initializations,
+        5 => v.directives,
+        _ => 0,
     }
-    0
 }
 
 fn number_if(test: bool) -> u64

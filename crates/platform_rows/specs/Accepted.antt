@@ -24,4 +24,4 @@ pub record PlatformsAccepted (s : List ℕ) (c : Cursor) (cca : ℕ) : Type 0 wh
   pub read : ReadTo s c
   pub high : c .row ≤ headOf s .platforms
   pub good : anyBelow (c .row) (λ i. isFault (platformFaults (sheetHeaders s) i)) ≡ false
-  pub cca : HoldsCca cca (before (c .row) (sheetHeaders s .platforms))
+  pub holds : HoldsCca cca (before (c .row) (sheetHeaders s .platforms))

@@ -29,9 +29,8 @@ on-page-requires c κs = search needs
 
 -- src/lib.rt:37:1
 returns-2 : tie.Need-returns-2
-returns-2 c = 
-    let l : 12 ≤ length (now (c .before .before .before .before .args .b)) = omega arith in
-    (
+returns-2 c =
+    let l : 12 ≤ length (now (c .before .before .before .before .args .b)) = omega arith in (
       λ arch e.
           let (p, d) = and-parts _ _ e in
           area-sound arch _ l (rw (← c .before .u64-at .ensures, ← c .on-page .ensures) p) (rw (← c .before .u64-at .ensures) (leb-true _ _ d)),

@@ -76,7 +76,7 @@ loop-less c = let l = c .before .before .before .before .before .before .before 
 
 -- src/lib.rt:133:5
 loop-again : tie.Need-loop-again Inv-loop μ-loop
-loop-again c = 
+loop-again c =
     let st = c .before .before .before .before .before .before .before .before .before .before .before in
     let l = c .before .before .before .before .before .before .before .if1 .taken in
     let r = c .before .before .before .before .before .before .before .before .before .loop .inv .read .room in

@@ -85,7 +85,7 @@ add-t14 c = let r = c .before .before .before .before .before .before .before .b
 
 -- src/lib.rt:192:9
 past-like-requires : tie.Need-past-like-requires Inv-loop μ-loop
-past-like-requires c κs = 
+past-like-requires c κs =
     let a = next c in
     let st = c .before .before .before .before .before .before .before .before .before .before .before in
     (st .pre .0 .0, a .rows .read, a .rows .low, st .pre .0 .1)

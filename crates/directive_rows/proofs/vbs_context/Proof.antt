@@ -54,9 +54,8 @@ element-write-contexts c = search needs
 
 -- src/lib.rt:90:1
 returns-4 : tie.Need-returns-4
-returns-4 c = 
-    let n = c .before .before .before .before .before .before .before .before .pre in
-    (
+returns-4 c =
+    let n = c .before .before .before .before .before .before .before .before .pre in (
       λ e. (not-false _ (c .before .before .before .before .before .before .if1 .left), vbs-more _ _ _ _ (c .before .before .before .wide .ensures) (c .u32-at .ensures) (omega arith) (omega arith) n),
       (λ e. absurd (true≢false e), simp length-set n),
     )
