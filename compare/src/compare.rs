@@ -1,6 +1,7 @@
 //! One sheet, one call, three answers: of the calls under test, of document 01 in Rust, and, on its domain, of the Rust itself.
+//! To the verdict there is a fourth, of plain.rs.
 
-use crate::paper;
+use crate::{paper, plain};
 use calls::Calls;
 use oracle::{Headers, Judged, Relocated};
 
@@ -155,6 +156,17 @@ fn lent_part(buffer: &mut [u8]) -> &mut [u8] {
     &mut buffer[8..end]
 }
 
+/// Who disagrees.
+#[derive(Clone, Copy, Debug, PartialEq, Eq)]
+pub enum Between {
+    /// the Rust, with the calls or about what is readable
+    Rust,
+    /// the calls and document 01
+    Paper,
+    /// plain.rs and document 01
+    Plain,
+}
+
 /// Two answers that differ.
 #[derive(Clone, Debug)]
 pub struct Difference {
@@ -162,30 +174,30 @@ pub struct Difference {
     pub call: Call,
     /// who disagrees about what, with both answers
     pub what: String,
-    /// the Rust is one of the two
-    pub with_rust: bool,
+    pub between: Between,
 }
 
 /// The answers to one call, compared: every number, every lent byte, and the bytes on either side. Gives the refusal's number.
 pub fn check(calls: &Calls, sheet: &[u8], rust: &Rust, call: Call) -> Result<u64, Difference> {
-    let differ = |with_rust: bool, what: String| Difference { sheet: sheet.to_vec(), call, what, with_rust };
+    let differ = |between: Between, what: String| Difference { sheet: sheet.to_vec(), call, what, between };
     let mut paper_bytes = fresh(call.lent());
     let by_paper = call.by_paper(sheet, lent_part(&mut paper_bytes));
     let mut rust_bytes = fresh(call.lent());
-    let by_rust = rust.answer(call, lent_part(&mut rust_bytes)).map_err(|message| differ(true, message))?;
+    let by_rust = rust.answer(call, lent_part(&mut rust_bytes)).map_err(|message| differ(Between::Rust, message))?;
     if call == Call::Verdict {
-        readable_alike(rust, by_paper[0]).map_err(|what| differ(true, what))?;
+        readable_alike(rust, by_paper[0]).map_err(|what| differ(Between::Rust, what))?;
+        plain_alike(sheet, &by_paper[..6]).map_err(|what| differ(Between::Plain, what))?;
     }
     for which in WHICH {
         let mut bytes = fresh(call.lent());
         let answer = call.ask(calls, sheet, lent_part(&mut bytes), which);
         if let Some(numbers) = by_rust {
             if answer != at(which, &numbers) || bytes != rust_bytes {
-                return Err(differ(true, said(which, answer, &bytes, "the Rust", &numbers, &rust_bytes)));
+                return Err(differ(Between::Rust, said(which, answer, &bytes, "the Rust", &numbers, &rust_bytes)));
             }
         }
         if answer != at(which, &by_paper) || bytes != paper_bytes {
-            return Err(differ(false, said(which, answer, &bytes, "document 01", &by_paper, &paper_bytes)));
+            return Err(differ(Between::Paper, said(which, answer, &bytes, "document 01", &by_paper, &paper_bytes)));
         }
     }
     Ok(by_paper[0])
@@ -216,6 +228,15 @@ fn readable_alike(rust: &Rust, number: u64) -> Result<(), String> {
     }
     if rust.headers.is_some() == (1..=6).contains(&number) {
         return Err(format!("document 01 says {number}; decoded for the Rust: {}", rust.headers.is_some()));
+    }
+    Ok(())
+}
+
+/// Plain Rust gives document 01's verdict.
+pub fn plain_alike(sheet: &[u8], by_paper: &[u64]) -> Result<(), String> {
+    let by_plain = plain::numbers(sheet);
+    if by_plain != by_paper {
+        return Err(format!("plain Rust says {by_plain:?}; document 01 says {by_paper:?}"));
     }
     Ok(())
 }

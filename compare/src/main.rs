@@ -6,6 +6,7 @@ mod generate;
 mod library;
 mod order;
 mod paper;
+mod plain;
 mod plan;
 mod random;
 mod record;
@@ -18,7 +19,7 @@ mod speed;
 mod tally;
 
 use calls::Calls;
-use compare::{Call, Difference};
+use compare::{Between, Call, Difference};
 use std::time::Instant;
 use tally::Tally;
 
@@ -167,12 +168,12 @@ fn wrong_copies(o: &Options) -> Result<(), String> {
     let mut missed = Vec::new();
     for (name, what, calls) in wrong::WRONG {
         match caught::first_difference(calls, o.seed, o.cases.min(200_000)) {
-            Some((place, difference)) => {
+            Some((place, difference)) if difference.between != Between::Plain => {
                 let smallest = shrink::smallest(calls, difference);
-                let by = if smallest.with_rust { "the Rust" } else { "document 01" };
+                let by = if smallest.between == Between::Rust { "the Rust" } else { "document 01" };
                 println!("caught {name} ({what}): {place}, by {by}; {} bytes, {:?}", smallest.sheet.len(), smallest.call);
             }
-            None => missed.push(*name),
+            _ => missed.push(*name),
         }
     }
     println!("{} wrong copies, {} not caught, {:.1?}", wrong::WRONG.len(), missed.len(), start.elapsed());

@@ -1,9 +1,9 @@
 //! Demand 3 by running: sheets reordered as it allows get the same answers, and each of its two order conditions is needed.
 
-use crate::compare::Call;
-use crate::generate;
+use crate::compare::{plain_alike, Call};
 use crate::random::Random;
 use crate::sheet::{fields_length, hex, Image, Row};
+use crate::{generate, paper};
 use calls::Calls;
 
 /// A sheet, the same sheet reordered, and for each list where row i of the first stands in the second.
@@ -36,7 +36,7 @@ pub fn run(calls: &Calls, seed: u64, cases: u64) -> Result<(), String> {
             let [a, b] = [&reordered.a, &reordered.b].map(|image| hex(&image.bytes()));
             format!("order, case {case}: {what}\n  a: {a}\n  b: {b}")
         })?;
-        swapped(calls, &mut random, &reordered.a, &mut counts);
+        swapped(calls, &mut random, &reordered.a, &mut counts).map_err(|what| format!("order, case {case}, two rows swapped: {what}"))?;
     }
     let c = &counts;
     println!(
@@ -127,6 +127,12 @@ fn number(calls: &Calls, sheet: &[u8], call: Call, which: u32) -> u64 {
     call.ask(calls, sheet, &mut [], which)
 }
 
+/// Plain Rust gives document 01's verdict on both sheets.
+fn both_plain_alike(a: &[u8], b: &[u8]) -> Result<(), String> {
+    plain_alike(a, &paper::verdict(a))?;
+    plain_alike(b, &paper::verdict(b))
+}
+
 fn is_accepted(calls: &Calls, sheet: &[u8]) -> bool {
     number(calls, sheet, Call::Verdict, 0) == 0
 }
@@ -134,6 +140,7 @@ fn is_accepted(calls: &Calls, sheet: &[u8]) -> bool {
 fn same_answers(calls: &Calls, random: &mut Random, r: &Reordered, counts: &mut Counts) -> Result<(), String> {
     let (a, b) = (r.a.bytes(), r.b.bytes());
     counts.reordered += 1;
+    both_plain_alike(&a, &b)?;
     if (1..=6).contains(&number(calls, &b, Call::Verdict, 0)) {
         return Err("the reordered sheet is not readable".into());
     }
@@ -246,7 +253,7 @@ fn bases(random: &mut Random, row: &Row) -> [u64; 5] {
 // ---- what demand 3 does not allow
 
 /// Swaps two platforms of one mask, and two directives of one area, where there are such, and counts how often the verdict differs.
-fn swapped(calls: &Calls, random: &mut Random, image: &Image, counts: &mut Counts) {
+fn swapped(calls: &Calls, random: &mut Random, image: &Image, counts: &mut Counts) -> Result<(), String> {
     for list in [0, 2] {
         let rows = &image.lists[list];
         let tied = |i: usize, j: usize| tie(list, &rows[i]).is_some() && tie(list, &rows[i]) == tie(list, &rows[j]);
@@ -258,7 +265,9 @@ fn swapped(calls: &Calls, random: &mut Random, image: &Image, counts: &mut Count
         let (i, j) = random.pick(&pairs);
         let mut other = image.clone();
         other.lists[list].swap(i, j);
-        let differs = u64::from(is_accepted(calls, &image.bytes()) != is_accepted(calls, &other.bytes()));
+        let (one, other) = (image.bytes(), other.bytes());
+        both_plain_alike(&one, &other).map_err(|what| format!("{what}\n  {}", hex(&other)))?;
+        let differs = u64::from(is_accepted(calls, &one) != is_accepted(calls, &other));
         let (swaps, differ) = match list {
             0 => (&mut counts.platform_swaps, &mut counts.platform_swaps_differ),
             _ => (&mut counts.area_swaps, &mut counts.area_swaps_differ),
@@ -266,4 +275,5 @@ fn swapped(calls: &Calls, random: &mut Random, image: &Image, counts: &mut Count
         *swaps += 1;
         *differ += differs;
     }
+    Ok(())
 }

@@ -4,7 +4,7 @@ use crate::compare::{check, Call, Rust};
 use crate::library::LIBRARY;
 use crate::random::Random;
 use crate::sheet::hex;
-use crate::{generate, line, paper, plan};
+use crate::{generate, line, paper, plain, plan};
 use calls::Calls;
 use std::fs;
 use std::path::Path;
@@ -47,6 +47,7 @@ pub fn one(digits: &str) -> Result<(), String> {
     let sheet: Option<Vec<u8>> = (0..digits.len()).step_by(2).map(digit).collect();
     let sheet = sheet.ok_or("not hexadecimal digits, two for a byte")?;
     println!("document 01: {}", line(&paper::CALLS, &sheet));
+    println!("plain Rust: {:?}", plain::numbers(&sheet));
     if let Some(library) = LIBRARY {
         println!("library: {}", line(&library, &sheet));
     }

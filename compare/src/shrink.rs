@@ -17,7 +17,7 @@ pub fn smallest(calls: &Calls, difference: Difference) -> Difference {
 fn smaller(calls: &Calls, from: &Difference) -> Option<Difference> {
     let differs = |sheet: &[u8], call: Call| {
         let found = check(calls, sheet, &Rust::of(sheet), call).err()?;
-        (found.with_rust == from.with_rust).then_some(found)
+        (found.between == from.between).then_some(found)
     };
     let image = Image::parse(&from.sheet);
     let by_rows = image.iter().flat_map(|image| edits(image).into_iter().map(|edit| edited(image, &edit)));
