@@ -1,4 +1,4 @@
-//! Short sheets, all of them of each sort: strings of few bytes, heads, one row with small fields, pairs of regions, sequences of areas.
+//! Short sheets, all of them of each sort: strings of few bytes, heads, one row with small fields, two and three regions, sequences of areas.
 
 use crate::compare::Call;
 use crate::generate::TOP;
@@ -23,7 +23,7 @@ pub fn every(each: Each) -> bool {
         region_contexts,
         lengths_and_bytes,
     ];
-    parts.into_iter().all(|part| part(each)) && limits(each)
+    parts.into_iter().all(|part| part(each)) && limits(each) && three_regions(each) && far_areas(each)
 }
 
 /// Calls `each` with every choice of one number from each set.
@@ -190,6 +190,18 @@ fn two_regions(each: Each) -> bool {
     })
 }
 
+/// Three regions of either kind, up to four pages apart: each may lie before, between or behind the others.
+fn three_regions(each: Each) -> bool {
+    let (kinds, masks, pages): (&[u64], &[u64], &[u64]) = (&[18, 19], &[1, 2, 3], &[0, 1, 2, 3]);
+    product(&[kinds, kinds, kinds, masks, masks, masks, pages, pages, pages, &[1, 2]], &mut |v| {
+        let row = |n: usize| {
+            let make = if v[n] == 18 { region } else { page_table };
+            make(v[3 + n], 0x1000 * v[6 + n], if n == 2 { 0x1000 * v[9] } else { 0x1000 })
+        };
+        each(&Image::new(0, [vec![native()], vec![row(0), row(1), row(2)], vec![vbs(0, 3, 0)]]).bytes())
+    })
+}
+
 // ---- directives
 
 /// The numbers that a directive's field is given.
@@ -228,16 +240,27 @@ fn one_directive(each: Each) -> bool {
 
 /// Every sequence of up to five rows that allocate, name or insert area 0 or 1.
 fn areas(each: Each) -> bool {
+    (1..=5).all(|length| area_sequences(length, [0, 1], each))
+}
+
+/// Every sequence of four rows that do so with two indexes at the ends of words and sets of bits, or with few equal bits.
+fn far_areas(each: Each) -> bool {
+    let pairs = [[0, 64], [63, 64], [0, 8192], [8191, 8192], [8192, 16384], [8192, 0xFFFF_FFFF], [1, 0x1_0001]];
+    pairs.into_iter().all(|pair| area_sequences(4, pair, each))
+}
+
+fn area_sequences(length: usize, indexes: [u64; 2], each: Each) -> bool {
     let actions: &[u64] = &[0, 1, 2, 3, 4, 5];
-    (1..=5).all(|length| {
-        product(&vec![actions; length], &mut |v| {
-            let row = |&code: &u64| match code / 2 {
-                0 => Row::new(33, &[0x1000, code % 2]),
-                1 => Row::new(34, &[code % 2, 0]),
-                _ => Row::new(50, &[0, 1, code % 2]),
-            };
-            each(&Image::new(0, [vec![native()], vec![], v.iter().map(row).collect()]).bytes())
-        })
+    product(&vec![actions; length], &mut |v| {
+        let row = |&code: &u64| {
+            let index = indexes[code as usize % 2];
+            match code / 2 {
+                0 => Row::new(33, &[0x1000, index]),
+                1 => Row::new(34, &[index, 0]),
+                _ => Row::new(50, &[0, 1, index]),
+            }
+        };
+        each(&Image::new(0, [vec![native()], vec![], v.iter().map(row).collect()]).bytes())
     })
 }
 
