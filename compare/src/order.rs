@@ -127,12 +127,6 @@ fn number(calls: &Calls, sheet: &[u8], call: Call, which: u32) -> u64 {
     call.ask(calls, sheet, &mut [], which)
 }
 
-/// Plain Rust gives document 01's verdict on both sheets.
-fn both_plain_alike(a: &[u8], b: &[u8]) -> Result<(), String> {
-    plain_alike(a, &paper::verdict(a))?;
-    plain_alike(b, &paper::verdict(b))
-}
-
 fn is_accepted(calls: &Calls, sheet: &[u8]) -> bool {
     number(calls, sheet, Call::Verdict, 0) == 0
 }
@@ -140,7 +134,8 @@ fn is_accepted(calls: &Calls, sheet: &[u8]) -> bool {
 fn same_answers(calls: &Calls, random: &mut Random, r: &Reordered, counts: &mut Counts) -> Result<(), String> {
     let (a, b) = (r.a.bytes(), r.b.bytes());
     counts.reordered += 1;
-    both_plain_alike(&a, &b)?;
+    plain_alike(&a, &paper::verdict(&a))?;
+    plain_alike(&b, &paper::verdict(&b))?;
     if (1..=6).contains(&number(calls, &b, Call::Verdict, 0)) {
         return Err("the reordered sheet is not readable".into());
     }
@@ -266,7 +261,7 @@ fn swapped(calls: &Calls, random: &mut Random, image: &Image, counts: &mut Count
         let mut other = image.clone();
         other.lists[list].swap(i, j);
         let (one, other) = (image.bytes(), other.bytes());
-        both_plain_alike(&one, &other).map_err(|what| format!("{what}\n  {}", hex(&other)))?;
+        plain_alike(&other, &paper::verdict(&other)).map_err(|what| format!("{what}\n  {}", hex(&other)))?;
         let differs = u64::from(is_accepted(calls, &one) != is_accepted(calls, &other));
         let (swaps, differ) = match list {
             0 => (&mut counts.platform_swaps, &mut counts.platform_swaps_differ),
