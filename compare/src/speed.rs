@@ -1,7 +1,8 @@
-//! The time of the calls and of the Rust, on the same images and in one run. README.md says what is measured.
+//! The time of the calls, of plain.rs and of the Rust, on the same images and in one run. README.md says what is measured.
 
 use crate::sheet::{Image, Row};
 use crate::short::{native, page_table, region, vbs};
+use crate::{paper, plain};
 use calls::Calls;
 use oracle::{Headers, IgvmFile};
 use std::hint::black_box;
@@ -21,6 +22,8 @@ pub struct Settings {
 enum Side {
     /// the call, from the sheet's bytes
     Library,
+    /// plain Rust, from the sheet's bytes
+    Plain,
     /// `IgvmFile::new` on headers that stand ready
     Ready,
     /// the same, with the decoding of the sheet's bytes before it
@@ -28,16 +31,28 @@ enum Side {
     /// `relocations` on a file that stands ready
     Alone,
 }
-use Side::{Alone, Bytes, Library, Ready};
+use Side::{Alone, Bytes, Library, Plain, Ready};
 
-const SIDES: [(&str, Side); 4] = [("library", Library), ("rust", Ready), ("bytes", Bytes), ("alone", Alone)];
+const SIDES: [(&str, Side); 5] = [("library", Library), ("plain", Plain), ("rust", Ready), ("bytes", Bytes), ("alone", Alone)];
 
-/// An image that is accepted, and what is asked of it: the verdict, or the regions of mask 1.
+/// What is asked of an image.
+#[derive(Clone, Copy, PartialEq, Eq)]
+enum Question {
+    /// the verdict, which accepts
+    Accepted,
+    /// the verdict, which refuses with this number
+    Refused(u64),
+    /// the regions of mask 1 of an accepted image
+    Relocations,
+}
+use Question::{Accepted, Refused, Relocations};
+
+/// An image, and what is asked of it.
 struct Case {
     name: String,
     sheet: Vec<u8>,
     headers: Headers,
-    relocations: bool,
+    question: Question,
 }
 
 pub fn run(calls: &Calls, settings: &Settings) -> Result<(), String> {
@@ -48,9 +63,10 @@ pub fn run(calls: &Calls, settings: &Settings) -> Result<(), String> {
         return Err("no such case, or no such side".into());
     }
     println!("nanoseconds of a call, the best of {} rounds; a ratio is the library's time to the one before it", settings.rounds);
-    let columns = ["rows", "bytes", "library", "per row", "rust", "ratio", "from bytes", "ratio", "alone", "ratio"];
+    let columns = ["rows", "bytes", "library", "per row", "plain", "ratio", "rust", "ratio", "from bytes", "ratio", "alone", "ratio"];
     println!("{:<24}{}", "case", columns.map(|column| format!("{column:>11}")).concat());
     for case in &cases {
+        case.check();
         let times = if settings.side.is_some() { 1 } else { (2048 / case.headers.kinds.len()).clamp(1, 64) };
         println!("{}", case.line(&case.best(calls, &sides, settings.rounds, times)));
     }
@@ -79,29 +95,60 @@ fn time<I, O>(inputs: Vec<I>, mut each: impl FnMut(I) -> O) -> Duration {
     start.elapsed()
 }
 
+/// The Rust's verdict. Where it refuses, it drops the headers itself.
+fn new_file(headers: Headers) -> Result<IgvmFile, oracle::Error> {
+    IgvmFile::new(headers.revision, headers.platforms, headers.initializations, headers.directives)
+}
+
 impl Case {
-    fn new(name: String, image: &Image, relocations: bool) -> Case {
+    fn new(name: String, image: &Image, question: Question) -> Case {
         let sheet = image.bytes();
         let headers = Headers::decode(&sheet).expect("a readable image");
-        Case { name, sheet, headers, relocations }
+        Case { name, sheet, headers, question }
+    }
+
+    /// Document 01 and the Rust accept the image, or refuse it, as the question says.
+    fn check(&self) {
+        assert_eq!(paper::verdict(&self.sheet)[0], self.number(), "{}: document 01", self.name);
+        let judged = self.headers.verdict().expect("no panic");
+        assert_eq!(judged.numbers[0], self.number(), "{}: the Rust", self.name);
+    }
+
+    /// The number of the refusal, 0 where there is none.
+    fn number(&self) -> u64 {
+        match self.question {
+            Refused(number) => number,
+            Accepted | Relocations => 0,
+        }
+    }
+
+    /// `relocations` alone is no side of a verdict, and plain Rust has no region list.
+    fn has(&self, side: Side) -> bool {
+        match side {
+            Alone => self.question == Relocations,
+            Plain => self.question != Relocations,
+            Library | Ready | Bytes => true,
+        }
     }
 
     fn ask(&self, calls: &Calls, lent: &mut [u8]) -> u64 {
         let sheet = black_box(&self.sheet[..]);
-        if self.relocations {
+        if self.question == Relocations {
             return (calls.relocations)(sheet, 1, lent, 0);
         }
         (calls.verdict)(sheet, 0)
     }
 
-    fn new_file(headers: Headers) -> IgvmFile {
-        IgvmFile::new(headers.revision, headers.platforms, headers.initializations, headers.directives).expect("an accepted image")
+    fn plain(&self) -> Result<[u64; 3], paper::Refusal> {
+        let answer = plain::verdict(black_box(&self.sheet[..]));
+        assert_eq!(answer.as_ref().map_or_else(|refusal| refusal.0, |_| 0), self.number());
+        answer
     }
 
     /// The Rust's answer. The file is returned too, so that it is dropped later.
     fn rust(&self, headers: Headers) -> impl Sized {
-        let file = Case::new_file(headers);
-        let found = self.relocations.then(|| file.relocations(1));
+        let file = new_file(headers);
+        let found = file.as_ref().ok().filter(|_| self.question == Relocations).map(|file| file.relocations(1));
         (file, found)
     }
 
@@ -110,12 +157,13 @@ impl Case {
         match side {
             Library => {
                 let mut lent = [0; 64 * 64];
-                time(vec![(); times], |()| assert_eq!(self.ask(calls, &mut lent), 0))
+                time(vec![(); times], |()| assert_eq!(self.ask(calls, &mut lent), self.number()))
             }
+            Plain => time(vec![(); times], |()| self.plain()),
             Ready => time(vec![self.headers.clone(); times], |headers| self.rust(headers)),
             Bytes => time(vec![(); times], |()| self.rust(Headers::decode(black_box(&self.sheet)).expect("a readable image"))),
             Alone => {
-                let file = Case::new_file(self.headers.clone());
+                let file = new_file(self.headers.clone()).expect("an accepted image");
                 time(vec![(); times], |()| file.relocations(black_box(1)))
             }
         }
@@ -123,7 +171,7 @@ impl Case {
 
     /// The least time of a call of each side, in nanoseconds. The sides take turns.
     fn best(&self, calls: &Calls, sides: &[Side], rounds: u64, times: usize) -> Vec<(Side, f64)> {
-        let sides = sides.iter().filter(|&&side| side != Alone || self.relocations);
+        let sides = sides.iter().filter(|&&side| self.has(side));
         let mut best: Vec<(Side, f64)> = sides.map(|&side| (side, f64::INFINITY)).collect();
         for _ in 0..rounds {
             for (side, least) in &mut best {
@@ -139,7 +187,7 @@ impl Case {
         let column = |number: Option<f64>, digits: usize| number.map_or(format!("{:>11}", "-"), |n| format!("{n:>11.digits$}"));
         let mut line = format!("{:<24}{rows:>11}{:>11}", self.name, self.sheet.len());
         line += &(column(of(Library), 0) + &column(of(Library).map(|least| least / rows as f64), 1));
-        for side in [Ready, Bytes, Alone] {
+        for side in [Plain, Ready, Bytes, Alone] {
             let ratio = of(Library).zip(of(side)).map(|(library, other)| library / other);
             line += &(column(of(side), 0) + &column(ratio, 2));
         }
@@ -150,25 +198,36 @@ impl Case {
 // ---- the images
 
 fn cases() -> Vec<Case> {
-    let mut cases = vec![Case::new("b".into(), &b(), false), Case::new("largest".into(), &largest(), false)];
-    let mut add =
-        |name: &str, rows: u64, image: Image, relocations: bool| cases.push(Case::new(format!("{name}-{rows}"), &image, relocations));
+    let mut cases = vec![Case::new("b".into(), &b(), Accepted), Case::new("largest".into(), &largest(), Accepted)];
+    let mut add = |name: &str, rows: u64, image: Image, question: Question| {
+        cases.push(Case::new(format!("{name}-{rows}"), &image, question));
+    };
     for rows in [8, 16, 32, 64] {
-        add("initializations", rows, initializations(rows), false);
+        add("initializations", rows, initializations(rows), Accepted);
     }
+    add("table", 64, with_table(64), Accepted);
+    add("table-first", 64, table_first(64), Accepted);
+    add("descending", 64, descending(64, 1), Accepted);
+    add("bits", 64, descending(64, 0xFFFF_FFFF), Accepted);
     for rows in [64, 128, 256, 512, 1024] {
-        add("pages", rows, pages(rows, 0), false);
-        add("full-pages", rows, pages(rows, 4096), false);
-        add("areas", rows, areas(rows, 1), false);
-        add("spread-areas", rows, areas(rows, 0x9E37_79B1), false);
-        add("last-area", rows, last_area(rows), false);
+        add("pages", rows, pages(rows, 0), Accepted);
+        add("full-pages", rows, pages(rows, 4096), Accepted);
+        add("areas", rows, areas(rows, 1), Accepted);
+        add("spread-areas", rows, areas(rows, 0x9E37_79B1), Accepted);
+        add("last-area", rows, last_area(rows), Accepted);
+        add("first-area", rows, first_area(rows), Accepted);
+        add("one-area", rows, one_area(rows), Accepted);
+        add("triples", rows, triples(rows), Accepted);
     }
+    add("contexts", 1024, contexts(1024), Accepted);
+    add("refused", 64, last_overlaps(64), Refused(29));
+    add("refused-pages", 1024, last_page_of_no_type(1024), Refused(30));
+    add("refused-areas", 1024, last_use_of_no_area(1024), Refused(32));
     for rows in [8, 16, 32, 64] {
-        add("relocations", rows, initializations(rows), true);
+        add("relocations", rows, initializations(rows), Relocations);
     }
-    add("relocations-table", 64, with_table(64), true);
-    cases.push(Case::new("relocations-b".into(), &b(), true));
-    cases.sort_by_key(|case| case.relocations);
+    add("relocations-table", 64, with_table(64), Relocations);
+    cases.push(Case::new("relocations-b".into(), &b(), Relocations));
     cases
 }
 
@@ -193,9 +252,49 @@ fn with_table(rows: u64) -> Image {
     image
 }
 
+/// The first one is.
+fn table_first(rows: u64) -> Image {
+    let mut image = with_table(rows);
+    image.lists[1].rotate_right(1);
+    image
+}
+
+/// Regions of this mask side by side, the highest first, then a page table above them, and a context.
+fn descending(rows: u64, mask: u64) -> Image {
+    let mut initializations: Vec<Row> = (0..rows - 1).rev().map(|row| region(mask, 0x2000 * row, 0x2000)).collect();
+    initializations.push(page_table(mask, 0x2000 * rows, 0x2000));
+    image(initializations, vec![vbs(0, mask, 0)])
+}
+
+/// The last region overlaps the first.
+fn last_overlaps(rows: u64) -> Image {
+    let mut image = initializations(rows);
+    image.lists[1].last_mut().unwrap().set("gpa", 0x1000);
+    image
+}
+
 /// Pages of so many bytes.
 fn pages(rows: u64, bytes: usize) -> Image {
     image(vec![], (0..rows).map(|row| Row::new(32, &[0x1000 * row, 1, 0, 0]).with_tail(&vec![7; bytes])).collect())
+}
+
+fn last_page_of_no_type(rows: u64) -> Image {
+    let mut image = pages(rows, 0);
+    image.lists[2].last_mut().unwrap().set("type", 4);
+    image
+}
+
+/// Rows of kinds 44, 45, 46, 47, 51 and 52 in turn.
+fn contexts(rows: u64) -> Image {
+    let row = |row: u64| match row % 6 {
+        0 => Row::new(44, &[0x1000 * row, 1, 0x1000, 0]),
+        1 => Row::new(45, &[0x1000 * row, 1, 0]),
+        2 => Row::new(46, &[1, 0]),
+        3 => vbs(0, 1, 0),
+        4 => Row::new(51, &[0x1000 * row, 1, 0x1000]),
+        _ => Row::new(52, &[1]),
+    };
+    image(vec![], (0..rows).map(row).collect())
 }
 
 /// As many rows of each list as can be accepted: the six platform types of X64, 64 regions, a context and 1,023 pages.
@@ -216,9 +315,39 @@ fn areas(rows: u64, step: u64) -> Image {
     image(vec![], allocated.chain(used).chain(inserted).collect())
 }
 
-/// One area less than half of the rows, then uses of the last.
-fn last_area(rows: u64) -> Image {
+/// One area less than half of the rows, then uses of one of them: `used` gives its index from their number.
+fn half_areas(rows: u64, used: fn(u64) -> u64) -> Image {
     let count = rows / 2 - 1;
     let allocated = (0..count).map(|area| Row::new(33, &[0x1000, area]));
-    image(vec![], allocated.chain((count..rows).map(|_| Row::new(34, &[count - 1, 0]))).collect())
+    image(vec![], allocated.chain((count..rows).map(|_| Row::new(34, &[used(count), 0]))).collect())
+}
+
+fn last_area(rows: u64) -> Image {
+    half_areas(rows, |count| count - 1)
+}
+
+fn first_area(rows: u64) -> Image {
+    half_areas(rows, |_| 0)
+}
+
+/// One area, then uses of it.
+fn one_area(rows: u64) -> Image {
+    image(vec![], (0..rows).map(|row| if row == 0 { Row::new(33, &[0x1000, 0]) } else { Row::new(34, &[0, 0]) }).collect())
+}
+
+/// Area, use and insert in turn, of area 0, then of area 1, and so on.
+fn triples(rows: u64) -> Image {
+    let row = |row: u64| match row % 3 {
+        0 => Row::new(33, &[0x1000, row / 3]),
+        1 => Row::new(34, &[row / 3, 0]),
+        _ => Row::new(50, &[0x1000 * row, 1, row / 3]),
+    };
+    image(vec![], (0..rows).map(row).collect())
+}
+
+/// The last row is a use of an area that is not there.
+fn last_use_of_no_area(rows: u64) -> Image {
+    let mut image = areas(rows, 1);
+    *image.lists[2].last_mut().unwrap() = Row::new(34, &[rows, 0]);
+    image
 }
