@@ -23,7 +23,7 @@ pub fn every(each: Each) -> bool {
         region_contexts,
         lengths_and_bytes,
     ];
-    parts.into_iter().all(|part| part(each)) && limits(each) && three_regions(each) && far_areas(each)
+    parts.into_iter().all(|part| part(each)) && limits(each) && three_regions(each) && far_areas(each) && behind_a_fault(each)
 }
 
 /// Calls `each` with every choice of one number from each set.
@@ -311,10 +311,22 @@ fn every_kind(arch: u8) -> Image {
 }
 
 fn lengths_and_bytes(each: Each) -> bool {
+    (0..2).all(|arch| cut_and_changed(&every_kind(arch).bytes(), each))
+        && (0..256).chain([257, 0x1_0012, u32::MAX]).all(|kind| body_lengths(kind, each))
+}
+
+/// A row of every kind behind a platform that is refused (8), cut and changed likewise: only faults of reading come before the platform's.
+fn behind_a_fault(each: Each) -> bool {
     (0..2).all(|arch| {
-        let bytes = every_kind(arch).bytes();
-        (0..bytes.len()).all(|length| each(&bytes[..length]) && one_byte_changed(&bytes, length, each))
-    }) && (0..256).chain([257, 0x1_0012, u32::MAX]).all(|kind| body_lengths(kind, each))
+        let mut image = every_kind(arch);
+        image.lists[0][0].set("mask", 3);
+        cut_and_changed(&image.bytes(), each)
+    })
+}
+
+/// The sheet cut at every length, and with every byte changed.
+fn cut_and_changed(bytes: &[u8], each: Each) -> bool {
+    (0..bytes.len()).all(|length| each(&bytes[..length]) && one_byte_changed(bytes, length, each))
 }
 
 fn one_byte_changed(bytes: &[u8], at: usize, each: Each) -> bool {
