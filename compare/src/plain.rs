@@ -13,6 +13,16 @@ const CCA: u8 = 6;
 /// The rows of each list, or the refusal.
 pub fn verdict(sheet: &[u8]) -> Result<[u64; 3], Refusal> {
     let sheet = Sheet::open(sheet)?;
+    // an image with few regions need not pay for clearing the room for 64
+    if sheet.lists[1].len() <= 4 {
+        judge(&sheet, &mut [Region::NONE; 4])
+    } else {
+        judge(&sheet, &mut [Region::NONE; 64])
+    }
+}
+
+/// All behind the table. There is room for a region of each initialization row.
+fn judge(sheet: &Sheet, room: &mut [Region]) -> Result<[u64; 3], Refusal> {
     let mut reader = Reader::new(&sheet.lists, sheet.bodies);
     if sheet.revision == 2 && u64::from(sheet.page_size) != PAGE {
         return Err(reader.unless_unreadable(Refusal(7, 0, u64::from(sheet.page_size))));
@@ -21,7 +31,7 @@ pub fn verdict(sheet: &[u8]) -> Result<[u64; 3], Refusal> {
     if sheet.lists[0].is_empty() {
         return Err(reader.unless_unreadable(Refusal(15, 0, 0)));
     }
-    let mut regions = Regions::with_capacity(sheet.lists[1].len());
+    let mut regions = Regions::new(room);
     initialization_rows(sheet.aarch64, cca, &mut reader, &mut regions)?;
     let contexts = directive_rows(sheet.aarch64, &mut reader, &regions)?;
     if !reader.rest.is_empty() {
@@ -317,6 +327,7 @@ fn platform_rows(aarch64: bool, reader: &mut Reader) -> Result<u32, Refusal> {
 // ---- initialization rows
 
 /// A region of either kind, from start up to, not including, end.
+#[derive(Clone, Copy)]
 struct Region {
     start: u64,
     end: u64,
@@ -326,6 +337,8 @@ struct Region {
 }
 
 impl Region {
+    const NONE: Region = Region { start: 0, end: 0, mask: 0, vtl: 0, is_table: false };
+
     /// They share an address under a shared bit.
     fn overlaps(&self, other: &Region) -> bool {
         self.mask & other.mask != 0 && self.start < other.end && other.start < self.end
@@ -355,8 +368,10 @@ impl Extent {
 }
 
 /// The regions of both kinds.
-struct Regions {
-    all: Vec<Region>,
+struct Regions<'a> {
+    /// the first `count` of these
+    room: &'a mut [Region],
+    count: usize,
     /// the extent of those of kind 18
     relocatable: Extent,
     /// the extent of those of kind 19
@@ -365,9 +380,13 @@ struct Regions {
     other_vp: bool,
 }
 
-impl Regions {
-    fn with_capacity(count: usize) -> Regions {
-        Regions { all: Vec::with_capacity(count), relocatable: Extent::EMPTY, tables: Extent::EMPTY, other_vp: false }
+impl<'a> Regions<'a> {
+    fn new(room: &'a mut [Region]) -> Regions<'a> {
+        Regions { room, count: 0, relocatable: Extent::EMPTY, tables: Extent::EMPTY, other_vp: false }
+    }
+
+    fn all(&self) -> &[Region] {
+        &self.room[..self.count]
     }
 
     fn add(&mut self, region: Region) {
@@ -376,24 +395,26 @@ impl Regions {
         } else {
             self.relocatable.add(&region);
         }
-        self.all.push(region);
+        self.room[self.count] = region;
+        self.count += 1;
     }
 
     /// Some region overlaps this one.
     fn overlap(&self, region: &Region) -> bool {
         let is_apart = self.relocatable.is_apart(region) && self.tables.is_apart(region);
-        !is_apart && self.all.iter().any(|other| region.overlaps(other))
+        !is_apart && self.all().iter().any(|other| region.overlaps(other))
     }
 
     /// The address lies in a page table that shares a bit.
     fn in_page_table(&self, gpa: u64, mask: u32) -> bool {
         let holds = |region: &Region| region.is_table && region.mask & mask != 0 && region.start <= gpa && gpa < region.end;
-        self.tables.masks & mask != 0 && self.all.iter().any(holds)
+        let tables = &self.tables;
+        tables.masks & mask != 0 && tables.low <= gpa && gpa < tables.high && self.all().iter().any(holds)
     }
 
     /// Each has VP index 0, and shares a bit with the contexts of its VTL.
     fn have_contexts(&self, contexts: [u32; 3]) -> bool {
-        !self.other_vp && self.all.iter().all(|region| contexts[usize::from(region.vtl)] & region.mask != 0)
+        !self.other_vp && self.all().iter().all(|region| contexts[usize::from(region.vtl)] & region.mask != 0)
     }
 }
 
@@ -553,8 +574,7 @@ impl Areas {
     }
 }
 
-/// Gives the masks of the VBS contexts of each VTL. It is a function of its own so that its loop has the registers for itself.
-#[inline(never)]
+/// Gives the masks of the VBS contexts of each VTL.
 fn directive_rows(aarch64: bool, reader: &mut Reader, regions: &Regions) -> Result<[u32; 3], Refusal> {
     // made with the first area
     let mut areas: Option<Areas> = None;
