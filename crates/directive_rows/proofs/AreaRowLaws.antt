@@ -152,15 +152,19 @@ unfolding kindOf spans lengthOk
 parameter-long = refl
 
 module _ (k : ℕ) (e : isParameter k ≡ true) (b : List ℕ) where
+  pub parameter-state : (earlier : Rows IgvmDirectiveHeader) (x : ℕ) → stateAfter earlier (directiveOf k b) x ≡ stateOf earlier x
+  unfolding stateOf stateAfter
+  parameter-state earlier x =
+      rw (parameter k e .allocated x b, parameter k e .inserted x b, or-false (any (allocates x) earlier), or-false (any (inserts x) earlier))
+
   pub parameter-area : (earlier : Rows IgvmDirectiveHeader) → stateOf earlier (leAt 4 b 0) ≡ 1 → (arch : Arch) (few areas states : List ℕ) → length b ≡ 8
       → HoldsAreas few areas states (stateOf earlier) → AreaRow arch earlier k b few areas states
-  unfolding stateOf stateAfter
   parameter-area earlier live arch few areas states l h =
       let p = parameter k e in
       record {
         sound = record { list = ap (λ (t : Kind). t .list) (p .kind) ∙ parameter-list; long = rw (p .kind, l) parameter-long; codes = p .codes b; own = p .own arch b };
         area = rw (p .bad earlier b, live-says earlier (leAt 4 b 0) live);
-        known = holds-same h (λ x. rw (p .allocated x b, p .inserted x b, or-false (any (allocates x) earlier), or-false (any (inserts x) earlier)));
+        known = holds-same h (λ x. sym (parameter-state earlier x));
       }
 
   pub parameter-table : (is : Rows IgvmInitializationHeader) → insideTable is (directiveOf k b) ≡ false

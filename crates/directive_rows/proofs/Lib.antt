@@ -1,3 +1,4 @@
 pub mod SoundLaws
 pub mod AcceptedLaws
 pub mod AreaRowLaws
+pub mod NamedLaws

@@ -1,9 +1,10 @@
 -- How far the directive rows of a byte string are in order, and what the rows passed tell.
 use Prim.Native.Nat.{ℕ, _+_, _-_, _≤_}
-use mathlib.Core.Bool.{false}
+use mathlib.Core.Bool.{Bool, false, not, _&&_}
 use mathlib.Core.List.{List}
 use mathlib.Core.Path.{_≡_}
-use lib.ListN.{length}
+use lib.Dec.{eqb}
+use lib.ListN.{length, getD}
 use Rattle.rows.specs.Below.{anyBelow}
 use Rattle.rows.specs.Rows.{before}
 use Rattle.igvm_defs.specs.Refusals.{isFault}
@@ -13,6 +14,8 @@ use Rattle.sheet.specs.Walk.{ReadTo}
 use Rattle.headers.specs.Headers.{sheetHeaders}
 use Rattle.rules.specs.Verdict.{directiveFaults}
 use Rattle.directives.specs.Record.{HoldsContexts}
+use Rattle.masks.specs.Masks.{shares}
+use Rattle.area_table.specs.AreaTable.{HoldsAreas}
 use Rattle.directive_rows.specs.Sound.{stateOf}
 
 -- how many rows stand before the directive rows
@@ -43,3 +46,13 @@ pub record PlainAccepted (s : List ℕ) (c : Cursor) (contexts : List ℕ) : Typ
   pub rows : DirectivesAccepted s c contexts
   pub areas : (area : ℕ) → stateBefore s (c .row) area ≡ 0
   pub masks : length contexts ≡ 3
+
+-- no directive row before the cursor's has a fault, and the table of areas has what these rows tell
+pub record NamedAccepted (s : List ℕ) (c : Cursor) (contexts few areas states : List ℕ) : Type 0 where
+  pub rows : DirectivesAccepted s c contexts
+  pub known : HoldsAreas few areas states (stateBefore s (c .row))
+  pub masks : length contexts ≡ 3
+
+-- some of the first n regions has a VP index other than 0, or no context
+abbrev pub anyLacks : List ℕ → List ℕ → List ℕ → ℕ → List ℕ → Bool
+anyLacks masks vps vtls n contexts = anyBelow n (λ i. not (eqb (getD vps i 0) 0 && shares (getD contexts (getD vtls i 0) 0) (getD masks i 0)))

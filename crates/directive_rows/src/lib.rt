@@ -1,7 +1,8 @@
 // The directive rows of a sheet, from its bytes, as far as they are in order: one pass, one arm for each kind. A row that is not in order, or of which this
 // pass can't tell, is where it ends; what is wrong with such a row is for the pass over directive headers to say.
 ghost use mathlib.Core.Path.{_≡_};
-ghost use mathlib.Core.Bool.{true, false, _&&_, _||_};
+ghost use mathlib.Core.Bool.{true, false, not, _&&_, _||_};
+ghost use mathlib.Core.List.{[], _∷_};
 ghost use Prim.Native.Nat.{ℕ, _+_, _-_, _≤_};
 ghost use lib.Dec.{eqb};
 ghost use lib.ListN.{length, getD};
@@ -20,7 +21,7 @@ ghost use Rattle.directive_header.specs.declared.IgvmDirectiveHeader.{IgvmDirec
 ghost use Rattle.headers.specs.Headers.{sheetHeaders};
 ghost use Rattle.area_table.specs.AreaTable.{HoldsAreas};
 ghost use Rattle.directive_rows.specs.Sound.{Sound, VbsContext, PlainRow, AreaRow, NamedRow, HoldsTables, stateOf};
-ghost use Rattle.directive_rows.specs.Accepted.{firstDirective, DirectivesAccepted, Onward, PlainAccepted, stateBefore};
+ghost use Rattle.directive_rows.specs.Accepted.{firstDirective, DirectivesAccepted, Onward, PlainAccepted, NamedAccepted, stateBefore, anyLacks};
 use sheet::Cursor;
 
 // ---- a row's body
@@ -328,4 +329,217 @@ fn past_plain(s: &[u8], from: Cursor, end: usize, x64: bool, contexts: &mut [u32
         c = past_like(s, kind, next, end);
     }
     c
+}
+
+// Past the parameters in order from the cursor on.
+fn past_parameters(
+    s: &[u8],
+    from: Cursor,
+    end: usize,
+    few: &[u8; area_table::FEW],
+    areas: &[u32; area_table::SLOTS],
+    states: &[u8; area_table::SLOTS],
+) -> Cursor
+    requires { ⌜ (bodiesAt (headOf (now s)) ≤ length (now s)) × ReadTo (now s) from × (firstDirective (now s) ≤ from .row) × (end ≡ rowCount (headOf (now s))) ⌝ }
+    requires { ⌜ HoldsAreas (now few) (now areas) (now states) (stateBefore (now s) (from .row)) ⌝ }
+    ensures { λ r. ⌜ Onward (now (s .entry)) from r ⌝ }
+{
+    let mut c = from;
+    while c.row < end {
+        let k = c.row;
+        let at = c.at;
+        let len = sheet::length_at(s, k);
+        if s.len() - at < len {
+            return c;
+        }
+        if !directives::is_parameter(sheet::kind_at(s, k)) {
+            return c;
+        }
+        if !parameter_row(sheet::part(s, at, len), few, areas, states) {
+            return c;
+        }
+        c = Cursor {
+            row: k + 1,
+            at: at + len,
+        };
+    }
+    c
+}
+
+// Pages and parameters come one behind the other: loops of their own take them.
+fn past_alike(
+    s: &[u8],
+    kind: u32,
+    from: Cursor,
+    end: usize,
+    few: &[u8; area_table::FEW],
+    areas: &[u32; area_table::SLOTS],
+    states: &[u8; area_table::SLOTS],
+) -> Cursor
+    requires { ⌜ (bodiesAt (headOf (now s)) ≤ length (now s)) × ReadTo (now s) from × (firstDirective (now s) ≤ from .row) × (end ≡ rowCount (headOf (now s))) ⌝ }
+    requires { ⌜ HoldsAreas (now few) (now areas) (now states) (stateBefore (now s) (from .row)) ⌝ }
+    ensures { λ r. ⌜ Onward (now (s .entry)) from r ⌝ }
+{
+    if directives::is_parameter(kind) {
+        return past_parameters(s, from, end, few, areas, states);
+    }
+    past_like(s, kind, from, end)
+}
+
+// Past the rows in order, with a table of areas.
+fn past_named<'a>(
+    s: &'a [u8],
+    from: Cursor,
+    end: usize,
+    x64: bool,
+    masks: &'a [u32],
+    gpas: &'a [u64],
+    sizes: &'a [u64],
+    tables: &'a [bool],
+    n: usize,
+    contexts: &mut [u32; 3],
+    few: &mut [u8; area_table::FEW],
+    areas: &mut [u32; area_table::SLOTS],
+    states: &mut [u8; area_table::SLOTS],
+) -> Cursor
+    requires { ⌜ (bodiesAt (headOf (now s)) ≤ length (now s)) × (end ≡ rowCount (headOf (now s))) × (x64 ≡ isX64 (sheetHeaders (now s) .arch)) ⌝ }
+    requires { ⌜ ((n ≤ length (now masks)) × (n ≤ length (now gpas)) × (n ≤ length (now sizes)) × (n ≤ length (now tables))) × HoldsTables (now masks) (now gpas) (now sizes) (now tables) n (sheetHeaders (now s) .initializations) ⌝ }
+    requires { ⌜ NamedAccepted (now s) from (now contexts) (now few) (now areas) (now states) ⌝ }
+    ensures { λ r. ⌜ DirectivesAccepted (now (s .entry)) r (now (contexts .exit)) × (length (now (contexts .exit)) ≡ 3) ⌝ }
+{
+    let mut c = from;
+    while c.row < end {
+        let k = c.row;
+        let at = c.at;
+        let kind = sheet::kind_at(s, k);
+        let len = sheet::length_at(s, k);
+        if s.len() - at < len {
+            return c;
+        }
+        if !named_row(
+            kind,
+            sheet::part(s, at, len),
+            x64,
+            masks,
+            gpas,
+            sizes,
+            tables,
+            n,
+            contexts,
+            few,
+            areas,
+            states,
+        ) {
+            return c;
+        }
+        let next = Cursor {
+            row: k + 1,
+            at: at + len,
+        };
+        c = past_alike(s, kind, next, end, few, areas, states);
+    }
+    c
+}
+
+// The rows from the first that names an area on. The table is made here, so that images without areas do not clear it.
+fn past_areas<'a>(
+    s: &'a [u8],
+    from: Cursor,
+    end: usize,
+    x64: bool,
+    masks: &'a [u32],
+    gpas: &'a [u64],
+    sizes: &'a [u64],
+    tables: &'a [bool],
+    n: usize,
+    contexts: &mut [u32; 3],
+) -> Cursor
+    requires { ⌜ (bodiesAt (headOf (now s)) ≤ length (now s)) × (end ≡ rowCount (headOf (now s))) × (x64 ≡ isX64 (sheetHeaders (now s) .arch)) ⌝ }
+    requires { ⌜ ((n ≤ length (now masks)) × (n ≤ length (now gpas)) × (n ≤ length (now sizes)) × (n ≤ length (now tables))) × HoldsTables (now masks) (now gpas) (now sizes) (now tables) n (sheetHeaders (now s) .initializations) ⌝ }
+    requires { ⌜ PlainAccepted (now s) from (now contexts) ⌝ }
+    ensures { λ r. ⌜ DirectivesAccepted (now (s .entry)) r (now (contexts .exit)) × (length (now (contexts .exit)) ≡ 3) ⌝ }
+{
+    let mut few: [u8; area_table::FEW] = [0; area_table::FEW];
+    let mut areas: [u32; area_table::SLOTS] = [0; area_table::SLOTS];
+    let mut states: [u8; area_table::SLOTS] = [0; area_table::SLOTS];
+    past_named(
+        s,
+        from,
+        end,
+        x64,
+        masks,
+        gpas,
+        sizes,
+        tables,
+        n,
+        contexts,
+        &mut few,
+        &mut areas,
+        &mut states,
+    )
+}
+
+// Past the directive rows in order, from the first on. The first n regions of the arrays are the file's; the masks become those of the contexts passed.
+pub fn accept<'a>(
+    s: &'a [u8],
+    from: Cursor,
+    end: usize,
+    x64: bool,
+    masks: &'a [u32],
+    gpas: &'a [u64],
+    sizes: &'a [u64],
+    tables: &'a [bool],
+    n: usize,
+    contexts: &mut [u32; 3],
+) -> Cursor
+    requires { ⌜ (bodiesAt (headOf (now s)) ≤ length (now s)) × (end ≡ rowCount (headOf (now s))) × (x64 ≡ isX64 (sheetHeaders (now s) .arch)) ⌝ }
+    requires { ⌜ ((n ≤ length (now masks)) × (n ≤ length (now gpas)) × (n ≤ length (now sizes)) × (n ≤ length (now tables))) × HoldsTables (now masks) (now gpas) (now sizes) (now tables) n (sheetHeaders (now s) .initializations) ⌝ }
+    requires { ⌜ ReadTo (now s) from × (from .row ≡ firstDirective (now s)) × (now contexts ≡ (0 ∷ 0 ∷ 0 ∷ [])) ⌝ }
+    ensures { λ r. ⌜ DirectivesAccepted (now (s .entry)) r (now (contexts .exit)) × (length (now (contexts .exit)) ≡ 3) ⌝ }
+{
+    let c = past_plain(s, from, end, x64, contexts);
+    if c.row < end {
+        return past_areas(s, c, end, x64, masks, gpas, sizes, tables, n, contexts);
+    }
+    c
+}
+
+// ---- 34
+
+fn mask_of_vtl(contexts: &[u32; 3], vtl: u8) -> u32
+    requires { ⌜ length (now contexts) ≡ 3 ⌝ }
+    ensures { λ r. ⌜ r ≡ getD (now (contexts .entry)) vtl 0 ⌝ }
+{
+    if vtl < 3 {
+        let v = vtl as usize;
+        return contexts[v];
+    }
+    0
+}
+
+fn lacks(contexts: &[u32; 3], mask: u32, vp: u16, vtl: u8) -> bool
+    requires { ⌜ length (now contexts) ≡ 3 ⌝ }
+    ensures { λ r. ⌜ r ≡ not (eqb vp 0 && shares (getD (now (contexts .entry)) vtl 0) mask) ⌝ }
+{
+    !((vp == 0) & masks::shares(mask_of_vtl(contexts, vtl), mask))
+}
+
+// Some of the first n regions has a VP index other than 0, or no context.
+pub fn any_lacks<'a>(
+    masks: &'a [u32],
+    vps: &'a [u16],
+    vtls: &'a [u8],
+    n: usize,
+    contexts: &'a [u32; 3],
+) -> bool
+    requires { ⌜ (n ≤ length (now masks)) × (n ≤ length (now vps)) × (n ≤ length (now vtls)) × (length (now contexts) ≡ 3) ⌝ }
+    ensures { λ r. ⌜ r ≡ anyLacks (now (masks .entry)) (now (vps .entry)) (now (vtls .entry)) n (now (contexts .entry)) ⌝ }
+{
+    let mut i = 0;
+    let mut found = false;
+    while i < n {
+        found = found | lacks(contexts, masks[i], vps[i], vtls[i]);
+        i += 1;
+    }
+    found
 }

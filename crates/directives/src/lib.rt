@@ -173,7 +173,7 @@ pub fn lacks_context(contexts: [u32; 3], r: Region) -> bool
 
 // ---- areas: how a row names an area (0 allocates, 1 uses, 2 inserts, 3 names none), and which
 
-fn is_parameter(kind: u32) -> bool
+pub fn is_parameter(kind: u32) -> bool
     ensures { λ r. ⌜ r ≡ isParameter kind ⌝ }
 {
     (34 <= kind) & (kind <= 43)
