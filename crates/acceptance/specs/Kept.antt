@@ -1,0 +1,35 @@
+-- What stands after the verdict on an accepted file: its regions, each with its row, and the masks of its contexts.
+use Prim.Native.Nat.{ℕ, _+_}
+use mathlib.Core.Bool.{false}
+use mathlib.Core.List.{List}
+use mathlib.Core.Path.{_≡_}
+use Rattle.igvm_defs.specs.Refusals.{isRefusal}
+use Rattle.sheet.specs.declared.Cursor.{Cursor}
+use Rattle.sheet.specs.Head.{headOf}
+use Rattle.sheet.specs.Read.{rowsRefusal}
+use Rattle.sheet.specs.Walk.{ReadTo}
+use Rattle.rules.specs.Verdict.{platformsRefusal, initializationsRefusal}
+use Rattle.rules.specs.Accepted.{NotRefused}
+use Rattle.headers.specs.Headers.{sheetHeaders}
+use Rattle.initializations.specs.declared.RelocRegions.{RelocRegions}
+use Rattle.initializations.specs.Record.{HoldsRegions, HoldsRows}
+use Rattle.directives.specs.Record.{HoldsContexts}
+
+pub record Kept (s : List ℕ) (held : RelocRegions) (numbers contexts : List ℕ) : Type 0 where
+  pub regions : HoldsRegions held (sheetHeaders s .initializations)
+  pub rows : HoldsRows (headOf s .platforms) numbers held (sheetHeaders s .initializations)
+  pub masks : HoldsContexts contexts (sheetHeaders s .directives)
+
+-- none of 1 to 6 and of 8 to 34 applies to the rows, and what was found of them is kept
+pub record RowsAccepted (s : List ℕ) (held : RelocRegions) (numbers contexts : List ℕ) : Type 0 where
+  pub read : isRefusal (rowsRefusal s) ≡ false
+  pub headers : NotRefused (sheetHeaders s)
+  pub kept : Kept s held numbers contexts
+
+-- the platform rows and the initialization rows are in order, and the record has the regions
+pub record ListsAccepted (s : List ℕ) (held : RelocRegions) (c : Cursor) : Type 0 where
+  pub read : ReadTo s c
+  pub row : c .row ≡ headOf s .platforms + headOf s .initializations
+  pub platforms : isRefusal (platformsRefusal (sheetHeaders s)) ≡ false
+  pub initializations : isRefusal (initializationsRefusal (sheetHeaders s)) ≡ false
+  pub holds : HoldsRegions held (sheetHeaders s .initializations)
