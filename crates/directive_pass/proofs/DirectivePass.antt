@@ -3,7 +3,7 @@
 use Prim.Native.Nat.{ℕ, zero, suc, _+_, _-_, _<_, _≤_}
 use native.Mathlib.Omega.{arith}
 use mathlib.Core.Path.{_≡_, refl, sym, ap, _∙_}
-use mathlib.Core.Bool.{Bool, true, false, _&&_, or-false}
+use mathlib.Core.Bool.{Bool, true, false, _&&_, or-false, false≢true}
 use mathlib.Core.Option.{none}
 use mathlib.Core.List.{List}
 use lib.Dec.{eqb, leb}
@@ -46,6 +46,7 @@ use Rattle.directives.specs.Record.{HoldsContexts, lacksContext, DirectiveStepp
 use Rattle.directives.proofs.DirectiveRecordLaws.{lacks-says, names-no-area, bad-area-test, holds-next}
 use Rattle.directive_pass.specs.Areas.{HoldsTables, AreasFilled, BadAreaBy}
 use Rattle.directive_pass.specs.Pages.{firstDirective, goodData, goodPage, PagesPassed}
+use Rattle.directive_pass.specs.Passed.{DirectivesPassed}
 
 -- ---- the directive rows of a readable sheet
 
@@ -296,20 +297,25 @@ module _ {s : List ℕ} {held : RelocRegions} {k n : ℕ} {a : Arch} {b : ℕ} {
   -- a row with a fault
   pub reached-stop : i < n → {f : Fault} {next : List ℕ}
       → DirectiveStepped (sheetHeaders s .arch) (sheetHeaders s .initializations) (sheetHeaders s .directives) i f next → isFault f ≡ true
-      → inRow (k + i + 1) f ≡ directivesRefusal (sheetHeaders s)
-  reached-stop l step e =
+      → DirectivesPassed s (inRow (k + i + 1) f) next
+  reached-stop l {f = f} step e =
       let counts = sheet-counts s in
-      rw (step .told, r .first, ← counts .platforms, ← counts .initializations)
-      (directives-stop (sheetHeaders s) i (reached-count l) (r .good) (rw (← step .told) e))
+      record {
+        told =
+            rw (step .told, r .first, ← counts .platforms, ← counts .initializations)
+            (directives-stop (sheetHeaders s) i (reached-count l) (r .good) (rw (← step .told) e));
+        holds = λ h. absurd (false≢true (sym h ∙ row-refusal (k + i + 1) f ∙ e));
+      }
 
   -- every row passed
-  pub reached-end : n ≤ i → inRow 0 (refuse (anyRegion (lacksContext masks) held) (fault 34 0) noFault) ≡ directivesRefusal (sheetHeaders s)
+  pub reached-end : n ≤ i → DirectivesPassed s (inRow 0 (refuse (anyRegion (lacksContext masks) held) (fault 34 0) noFault)) masks
   reached-end l =
       let w = r .within in
       let e = r .rows in
       let counts = sheet-counts s in
       let z : i ≡ sheetHeaders s .directives .count = omega arith in
-      directives-end (sheetHeaders s) held masks (r .regions) (rw z at (r .contexts)) (rw z at (r .good))
+      let holds : HoldsContexts masks (sheetHeaders s .directives) = rw z at (r .contexts) in
+      record { told = directives-end (sheetHeaders s) held masks (r .regions) holds (rw z at (r .good)); holds = λ _. holds }
 
 module _ {s : List ℕ} {held : RelocRegions} {k n : ℕ} {a : Arch} {b : ℕ} {masks : List ℕ} where
   -- m pages in order

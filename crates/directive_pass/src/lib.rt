@@ -9,11 +9,11 @@ ghost use Rattle.headers.specs.Headers.{sheetHeaders};
 ghost use Rattle.initialization_header.specs.declared.IgvmInitializationHeader.{IgvmInitializationHeader};
 ghost use Rattle.rows.specs.Rows.{Rows};
 ghost use Rattle.rules.specs.Directives.{insideTable};
-ghost use Rattle.rules.specs.Verdict.{directivesRefusal};
 ghost use Rattle.initializations.specs.Record.{anyRegion, HoldsRegions};
 ghost use Rattle.directives.specs.Record.{lacksContext, firstBadArea};
 ghost use Rattle.directive_pass.specs.Areas.{HoldsTables, AreasFilled, BadAreaBy};
 ghost use Rattle.directive_pass.specs.Pages.{firstDirective, goodPage, PagesPassed};
+ghost use Rattle.directive_pass.specs.Passed.{DirectivesPassed};
 use directive_header::IgvmDirectiveHeader;
 use igvm_defs::Fault;
 use igvm_defs::Refusal;
@@ -145,10 +145,20 @@ fn past_pages(s: &[u8], from: Cursor, end: usize) -> Cursor
     c
 }
 
+// The refusal, and the contexts' masks, which hold the contexts of all rows where there is no refusal.
+pub struct DirectivesPass {
+    pub refusal: Refusal,
+    pub contexts: [u32; 3],
+}
+
 // 21, 22, 24 and 30 to 33 of each directive row, then 34.
-pub fn validate_directive_headers(s: &[u8], head: SheetHead, regions: RelocRegions) -> Refusal
+pub fn validate_directive_headers(
+    s: &[u8],
+    head: SheetHead,
+    regions: RelocRegions,
+) -> DirectivesPass
     requires { ⌜ Readable limits (now s) × (head ≡ headOf (now s)) × HoldsRegions regions (sheetHeaders (now s) .initializations) ⌝ }
-    ensures { λ r. ⌜ r ≡ directivesRefusal (sheetHeaders (now (s .entry))) ⌝ }
+    ensures { λ r. ⌜ DirectivesPassed (now (s .entry)) (r .refusal) (r .contexts) ⌝ }
 {
     let first = (head.platforms as usize) + (head.initializations as usize);
     let n = head.directives as usize;
@@ -174,15 +184,19 @@ pub fn validate_directive_headers(s: &[u8], head: SheetHead, regions: RelocRegio
         let next = step.contexts;
         contexts = next;
         if fault.is_fault() {
-            return fault.in_row((first + i + 1) as u64);
+            return DirectivesPass {
+                refusal: fault.in_row((first + i + 1) as u64),
+                contexts,
+            };
         }
         c = past_pages(s, c.next(s), first + n);
         i = c.row - first;
     }
-    igvm_defs::refuse(
+    let refusal = igvm_defs::refuse(
         no_matching_vp_context(regions, contexts),
         34,
         0,
         Fault::NONE,
-    ).in_row(0)
+    ).in_row(0);
+    DirectivesPass { refusal, contexts }
 }

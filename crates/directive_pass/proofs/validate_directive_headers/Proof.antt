@@ -123,7 +123,7 @@ returns c =
     let d = c .before .before .before .before .before in
     let t = d .before .before .before .before .before .before .before .before .before in
     let e = sym (c .before .before .is-fault .ensures) ∙ c .before .if1 .taken in
-    c .in-row .ensures ∙ reached-stop (t .before .loop .inv) (t .loop-test .taken) (stepped d) e
+    rw (c .in-row .ensures) (reached-stop (t .before .loop .inv) (t .loop-test .taken) (stepped d) e)
 
 next-requires : tie.Need-next-requires Inv-loop μ-loop
 next-requires c κs =
