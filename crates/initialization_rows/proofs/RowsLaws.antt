@@ -6,7 +6,7 @@ use mathlib.Core.List.{List}
 use mathlib.Core.Option.{none, some}
 use Prim.Native.Nat.{ℕ, _+_, _-_, _*_, _≤_, _<_}
 use native.Mathlib.Omega.{arith}
-use lib.ListN.{length, take, drop, set, length-set}
+use lib.ListN.{length, take, drop, set}
 use Rattle.rows.specs.Below.{anyBelow}
 use Rattle.rows.specs.Rows.{Rows, any, before}
 use Rattle.rows.proofs.Bools.{or-false-parts}
@@ -35,7 +35,7 @@ use Rattle.initializations.specs.declared.RelocRegions.{RelocRegions}
 use Rattle.initializations.specs.declared.Reach.{Reach}
 use Rattle.initializations.specs.Record.{anyTablesShare, anyOverlap, HoldsRegions, stored}
 use Rattle.initializations.specs.Extents.{apartFrom, Covers}
-use Rattle.initializations.proofs.RecordLaws.{Room, holds-none, rows-none, holds-stored, rows-stored, holds-clashes}
+use Rattle.initializations.proofs.RecordLaws.{Room, Lent, lent-stored, holds-none, rows-none, holds-stored, rows-stored, holds-clashes}
 use Rattle.initializations.proofs.ExtentLaws.{near-overlap, covers-more}
 use Rattle.initialization_rows.specs.Row.{InOrder}
 use Rattle.platform_rows.specs.Accepted.{HoldsCca}
@@ -85,29 +85,6 @@ pub record Asked (s : List ℕ) (end : ℕ) (x64 : Bool) (cca : ℕ) : Type 0 wh
   pub initializations : headOf s .initializations ≤ 64
   pub arch : x64 ≡ isX64 (sheetHeaders s .arch)
   pub bits : HoldsCca cca (sheetHeaders s .platforms)
-
--- the arrays are as long as they were, and have room for every row
-pub record Lent (rows : ℕ) (was : RelocRegions) (wasNumbers : List ℕ) (held : RelocRegions) (numbers : List ℕ) : Type 0 where
-  pub mask : (length (held .mask) ≡ length (was .mask)) × (rows ≤ length (held .mask))
-  pub gpa : (length (held .gpa) ≡ length (was .gpa)) × (rows ≤ length (held .gpa))
-  pub size : (length (held .size) ≡ length (was .size)) × (rows ≤ length (held .size))
-  pub vp : (length (held .«vp_index») ≡ length (was .«vp_index»)) × (rows ≤ length (held .«vp_index»))
-  pub vtl : (length (held .vtl) ≡ length (was .vtl)) × (rows ≤ length (held .vtl))
-  pub table : (length (held .«page_table») ≡ length (was .«page_table»)) × (rows ≤ length (held .«page_table»))
-  pub number : (length numbers ≡ length wasNumbers) × (rows ≤ length numbers)
-
-lent-stored : (rows : ℕ) (was : RelocRegions) (wasNumbers : List ℕ) (held : RelocRegions) (numbers : List ℕ) (found : Bool) (new : Region) (number : ℕ)
-    → Lent rows was wasNumbers held numbers → Lent rows was wasNumbers (stored held found new) (set numbers (held .count) number)
-lent-stored rows was wasNumbers held numbers found new number l =
-    record {
-      mask = simp length-set (l .mask);
-      gpa = simp length-set (l .gpa);
-      size = simp length-set (l .size);
-      vp = simp length-set (l .vp);
-      vtl = simp length-set (l .vtl);
-      table = simp length-set (l .table);
-      number = simp length-set (l .number);
-    }
 
 -- at the head of the loop
 pub record Reached (s : List ℕ) (end : ℕ) (x64 : Bool) (cca : ℕ) (was : RelocRegions) (wasNumbers : List ℕ) (held : RelocRegions) (numbers : List ℕ) (c : Cursor) (reach : Reach) : Type 0 where

@@ -4,11 +4,11 @@ use mathlib.Core.Path.{_≡_, refl, sym, ap, ap₂, _∙_}
 use mathlib.Core.Bool.{Bool, true, false, cond, _||_, or-false}
 use mathlib.Core.List.{List}
 use mathlib.Core.Option.{none, some}
-use Prim.Native.Nat.{ℕ, _+_, _<_}
+use Prim.Native.Nat.{ℕ, _+_, _<_, _≤_}
 use native.Mathlib.Nat.{add-zero}
 use native.Mathlib.Omega.{arith}
 use lib.Dec.{ltb}
-use lib.ListN.{length, getD, set}
+use lib.ListN.{length, getD, set, length-set}
 use lib.Seq.{getD-set-same, getD-set-other}
 use borrow.Author.Tests.{ltb-true, ltb-false}
 use Rattle.rows.specs.Below.{anyBelow, sumBelow, countBelow}
@@ -147,3 +147,29 @@ module _ (r : RelocRegions) (new : Region) (room : Room r) where
 pub holds-clashes : (r : RelocRegions) (xs : Rows IgvmInitializationHeader) → HoldsRegions r xs → HoldsClashes (r .mask) (r .gpa) (r .size) (r .«page_table») (r .count) xs
 unfolding tablesShare overlap
 holds-clashes r xs held = record { tables-share = λ new. held .same (tablesShare new); overlaps = λ new. held .same (overlap new) }
+
+-- ---- arrays that are lent
+
+-- the arrays are as long as they were, and have room for every row
+pub record Lent (rows : ℕ) (was : RelocRegions) (wasNumbers : List ℕ) (held : RelocRegions) (numbers : List ℕ) : Type 0 where
+  pub mask : (length (held .mask) ≡ length (was .mask)) × (rows ≤ length (held .mask))
+  pub gpa : (length (held .gpa) ≡ length (was .gpa)) × (rows ≤ length (held .gpa))
+  pub size : (length (held .size) ≡ length (was .size)) × (rows ≤ length (held .size))
+  pub vp : (length (held .«vp_index») ≡ length (was .«vp_index»)) × (rows ≤ length (held .«vp_index»))
+  pub vtl : (length (held .vtl) ≡ length (was .vtl)) × (rows ≤ length (held .vtl))
+  pub table : (length (held .«page_table») ≡ length (was .«page_table»)) × (rows ≤ length (held .«page_table»))
+  pub number : (length numbers ≡ length wasNumbers) × (rows ≤ length numbers)
+
+-- a region stored
+pub lent-stored : (rows : ℕ) (was : RelocRegions) (wasNumbers : List ℕ) (held : RelocRegions) (numbers : List ℕ) (found : Bool) (new : Region) (number : ℕ)
+    → Lent rows was wasNumbers held numbers → Lent rows was wasNumbers (stored held found new) (set numbers (held .count) number)
+lent-stored rows was wasNumbers held numbers found new number l =
+    record {
+      mask = simp length-set (l .mask);
+      gpa = simp length-set (l .gpa);
+      size = simp length-set (l .size);
+      vp = simp length-set (l .vp);
+      vtl = simp length-set (l .vtl);
+      table = simp length-set (l .table);
+      number = simp length-set (l .number);
+    }

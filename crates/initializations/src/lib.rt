@@ -333,9 +333,9 @@ pub fn any_table_holds<'a>(
 }
 
 // A region of either kind, where a header has one.
-struct FoundRegion {
-    found: bool,
-    region: Region,
+pub struct FoundRegion {
+    pub found: bool,
+    pub region: Region,
 }
 
 const NO_REGION: Region = Region {
@@ -363,7 +363,7 @@ fn found_region(mask: u32, gpa: u64, size: u64, vp: u16, vtl: Vtl, table: bool) 
     }
 }
 
-fn region_of(h: IgvmInitializationHeader) -> FoundRegion
+pub fn region_of(h: IgvmInitializationHeader) -> FoundRegion
     ensures { λ r. ⌜ regionOf h ≡ cond (r .found) (some (r .region)) none ⌝ }
 {
     match h {
