@@ -1,0 +1,106 @@
+-- The loop over the initialization rows of a readable sheet: what holds at its head, and how a row's region leads to the next turn.
+-- Assumes nothing.
+use mathlib.Core.Path.{_≡_, sym, _∙_}
+use mathlib.Core.Bool.{Bool, cond}
+use mathlib.Core.List.{List}
+use mathlib.Core.Option.{none, some}
+use Prim.Native.Nat.{ℕ, _+_, _≤_, _<_}
+use native.Mathlib.Nat.{add-zero, add-assoc}
+use native.Mathlib.Omega.{arith}
+use lib.ListN.{length, set}
+use Rattle.rows.specs.Rows.{before}
+use Rattle.igvm_defs.specs.Kinds.{kindOf, initializationList}
+use Rattle.sheet.specs.declared.Cursor.{Cursor}
+use Rattle.sheet.specs.Head.{limits, headOf}
+use Rattle.sheet.specs.Table.{rowKind, bodyOf}
+use Rattle.sheet.specs.Read.{Readable}
+use Rattle.sheet.specs.Walk.{cursorAt, AtRow}
+use Rattle.sheet.proofs.Readable.{readable-bounds, at-row, initialization-row}
+use Rattle.initialization_header.specs.declared.IgvmInitializationHeader.{IgvmInitializationHeader}
+use Rattle.initialization_header.specs.Initializations.{initializationOf}
+use Rattle.rules.specs.declared.Region.{Region}
+use Rattle.rules.specs.Regions.{regionOf}
+use Rattle.headers.specs.Headers.{sheetHeaders}
+use Rattle.headers.proofs.HeaderLaws.{sheet-counts}
+use Rattle.initializations.specs.declared.RelocRegions.{RelocRegions}
+use Rattle.initializations.specs.Record.{HoldsRegions, HoldsRows, stored}
+use Rattle.initializations.proofs.RecordLaws.{Room, Lent, lent-stored, holds-none, rows-none, holds-stored, rows-stored}
+
+-- at the head of the loop: the cursor stands at row i of n initialization rows, which follow `first` others, and the record has the regions of the rows
+-- before it, each with its row
+pub record Reached (s : List ℕ) (first n : ℕ) (was : RelocRegions) (wasNumbers : List ℕ) (held : RelocRegions) (numbers : List ℕ) (c : Cursor) (i : ℕ) : Type 0 where
+  pub readable : Readable limits s
+  pub first-row : first ≡ headOf s .platforms
+  pub rows : n ≡ headOf s .initializations
+  pub below : i ≤ n
+  pub at : c ≡ cursorAt s (first + i)
+  pub lent : Lent (headOf s .initializations) was wasNumbers held numbers
+  pub holds : HoldsRegions held (before i (sheetHeaders s .initializations))
+  pub row-of : HoldsRows first numbers held (before i (sheetHeaders s .initializations))
+
+-- no row passed
+pub reached-none : (s : List ℕ) (first n : ℕ) (held : RelocRegions) (numbers : List ℕ) (c : Cursor) → Readable limits s → first ≡ headOf s .platforms
+    → n ≡ headOf s .initializations → c ≡ cursorAt s first → Lent (headOf s .initializations) held numbers held numbers → held .count ≡ 0
+    → Reached s first n held numbers held numbers c 0
+reached-none s first n held numbers c readable first-row rows at lent empty =
+    record {
+      readable = readable;
+      first-row = first-row;
+      rows = rows;
+      below = omega arith;
+      at = rw add-zero at;
+      lent = lent;
+      holds = holds-none held (sheetHeaders s .initializations) empty;
+      row-of = rows-none first numbers held (sheetHeaders s .initializations) empty;
+    }
+
+module _ {s : List ℕ} {first n : ℕ} {was : RelocRegions} {wasNumbers : List ℕ} {held : RelocRegions} {numbers : List ℕ} {c : Cursor} {i : ℕ}
+    (r : Reached s first n was wasNumbers held numbers c i) where
+  pub row-known : i < n → AtRow s c × (kindOf (rowKind s (c .row)) .list ≡ initializationList)
+  row-known l =
+      let e = r .rows in
+      let d = r .first-row in
+      rw (r .at)
+      (at-row limits s (r .readable) (first + i) (omega arith), initialization-row limits s (r .readable) (first + i) (omega arith) (omega arith))
+
+  -- the arrays have room for the row's region, and the row's number is small
+  pub row-room : i < n
+      → (first + i < 80) × (held .count < 64) × Room held × (held .count < length numbers)
+  row-room l =
+      let b = readable-bounds s (r .readable) in
+      let e = r .rows in
+      let d = r .first-row in
+      let h = r .holds .count in
+      let lent = r .lent in
+      omega arith
+
+  row-header : sheetHeaders s .initializations .row i ≡ initializationOf (rowKind s (c .row)) (bodyOf s (c .row))
+  unfolding sheetHeaders
+  row-header = rw (r .at, r .first-row)
+
+  -- the row passed, with its region
+  pub reached-next : (d : Cursor) (h : IgvmInitializationHeader) (found : Bool) (new : Region) → i < n → h ≡ initializationOf (rowKind s (c .row)) (bodyOf s (c .row))
+      → regionOf h ≡ cond found (some new) none → d ≡ cursorAt s (c .row + 1)
+      → Reached s first n was wasNumbers (stored held found new) (set numbers (held .count) (first + i + 1)) d (i + 1)
+  reached-next d h found new l e region next =
+      let xs = sheetHeaders s .initializations in
+      let (small, count, room, number) = row-room l in
+      let of : regionOf (xs .row i) ≡ cond found (some new) none = rw (row-header, ← e) region in
+      record {
+        readable = r .readable;
+        first-row = r .first-row;
+        rows = r .rows;
+        below = omega arith;
+        at = rw (next, r .at, add-assoc);
+        lent = lent-stored (headOf s .initializations) was wasNumbers held numbers found new (first + i + 1) (r .lent);
+        holds = holds-stored held new room xs i found (r .holds) of;
+        row-of = rows-stored held new room first numbers xs i (r .row-of) found number of;
+      }
+
+  -- every row passed
+  pub reached-end : n ≤ i → HoldsRegions held (sheetHeaders s .initializations) × HoldsRows (headOf s .platforms) numbers held (sheetHeaders s .initializations)
+  reached-end l =
+      let b = r .below in
+      let e : i ≡ n = omega arith in
+      let z = e ∙ r .rows ∙ sym (sheet-counts s .initializations) in
+      (rw z at (r .holds), rw (z, r .first-row) at (r .row-of))

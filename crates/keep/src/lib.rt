@@ -1,0 +1,49 @@
+// The regions of a readable sheet, each with its row, kept in slices that are lent.
+ghost use mathlib.Core.Path.{_≡_};
+ghost use Prim.Native.Nat.{_≤_};
+ghost use lib.ListN.{length};
+ghost use Rattle.sheet.specs.Head.{limits, headOf};
+ghost use Rattle.sheet.specs.Read.{Readable};
+ghost use Rattle.headers.specs.Headers.{sheetHeaders};
+ghost use Rattle.initializations.specs.Record.{regionsIn, HoldsRegions, HoldsRows};
+use sheet::SheetHead;
+
+// How many regions the initialization rows have. A row's region is stored in place in any case, with the row's number in the sheet, from 1, and counted
+// where there is one.
+pub fn keep_regions<'a>(
+    s: &'a [u8],
+    head: SheetHead,
+    masks: &'a mut [u32],
+    gpas: &'a mut [u64],
+    sizes: &'a mut [u64],
+    vps: &'a mut [u16],
+    vtls: &'a mut [u8],
+    tables: &'a mut [bool],
+    rows: &'a mut [u16],
+) -> usize
+    requires { ⌜ Readable limits (now s) × (head ≡ headOf (now s)) ⌝ }
+    requires { ⌜ (headOf (now s) .initializations ≤ length (now masks)) × (headOf (now s) .initializations ≤ length (now gpas)) × (headOf (now s) .initializations ≤ length (now sizes)) × (headOf (now s) .initializations ≤ length (now vps)) × (headOf (now s) .initializations ≤ length (now vtls)) × (headOf (now s) .initializations ≤ length (now tables)) × (headOf (now s) .initializations ≤ length (now rows)) ⌝ }
+    ensures { λ n. ⌜ HoldsRegions (regionsIn (now (masks .exit)) (now (gpas .exit)) (now (sizes .exit)) (now (vps .exit)) (now (vtls .exit)) (now (tables .exit)) n) (sheetHeaders (now (s .entry)) .initializations) ⌝ }
+    ensures { λ n. ⌜ HoldsRows (headOf (now (s .entry)) .platforms) (now (rows .exit)) (regionsIn (now (masks .exit)) (now (gpas .exit)) (now (sizes .exit)) (now (vps .exit)) (now (vtls .exit)) (now (tables .exit)) n) (sheetHeaders (now (s .entry)) .initializations) ⌝ }
+{
+    let first = head.platforms as usize;
+    let count = head.initializations as usize;
+    let mut c = sheet::cursor_at(s, first);
+    let mut n = 0;
+    let mut i = 0;
+    while i < count {
+        let f = initializations::region_of(headers::initialization_at(s, c));
+        let r = f.region;
+        masks[n] = r.mask;
+        gpas[n] = r.gpa;
+        sizes[n] = r.size;
+        vps[n] = r.vp_index;
+        vtls[n] = r.vtl;
+        tables[n] = r.page_table;
+        rows[n] = (first + i + 1) as u16;
+        n += f.found as usize;
+        c = c.next(s);
+        i += 1;
+    }
+    n
+}
