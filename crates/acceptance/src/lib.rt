@@ -85,7 +85,14 @@ pub fn accept<'a>(
 {
     let first = platform_rows::accept(s, Cursor::new(end), p, x64);
     let a = first.at;
-    if (p == 0) | (a.row < p) {
+    if a.row < p {
+        return Reached {
+            at: a,
+            count: 0,
+            accepted: false,
+        };
+    }
+    if p == 0 {
         return Reached {
             at: a,
             count: 0,

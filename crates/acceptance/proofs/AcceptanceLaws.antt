@@ -1,0 +1,112 @@
+-- Where every row was passed, none of the refusals of rows and headers applies.
+-- Assumes nothing.
+use Prim.Native.Nat.{ℕ, _+_, _-_, _≤_, _<_}
+use native.Mathlib.Omega.{arith}
+use mathlib.Core.Path.{_≡_, refl, sym, ap, _∙_}
+use mathlib.Core.Bool.{Bool, true, false, not, _&&_}
+use mathlib.Core.List.{List}
+use lib.Dec.{eqb, ltb}
+use lib.ListN.{length, getD}
+use borrow.Author.Tests.{le-ltb}
+use Rattle.rows.specs.Below.{anyBelow}
+use Rattle.rows.specs.Rows.{Rows, before}
+use Rattle.rows.proofs.BelowLaws.{none-any}
+use Rattle.igvm_defs.specs.declared.Refusal.{Refusal}
+use Rattle.igvm_defs.specs.Refusals.{fault, noFault, refuse, isFault, isRefusal, inRow}
+use Rattle.igvm_defs.proofs.RefusalLaws.{no-fault, row-refusal}
+use Rattle.sheet.specs.declared.Cursor.{Cursor}
+use Rattle.sheet.specs.Head.{limits, headOf, rowCount, bodiesAt, startFault}
+use Rattle.sheet.specs.Table.{offsetOf}
+use Rattle.sheet.specs.Read.{endFault, rowsRefusal}
+use Rattle.sheet.specs.Walk.{ReadTo}
+use Rattle.sheet.proofs.Readable.{start-says}
+use Rattle.sheet.proofs.ReadLaws.{rows-end}
+use Rattle.headers.specs.Headers.{sheetHeaders}
+use Rattle.headers.proofs.HeaderLaws.{sheet-counts}
+use Rattle.initializations.specs.declared.RelocRegions.{RelocRegions}
+use Rattle.initializations.specs.Record.{anyRegion, regionsIn, HoldsRegions, HoldsRows}
+use Rattle.directives.specs.Record.{HoldsContexts, lacksContext}
+use Rattle.initialization_header.specs.declared.IgvmInitializationHeader.{IgvmInitializationHeader}
+use Rattle.rules.specs.Regions.{tableHolds}
+use Rattle.rules.specs.Accepted.{NotRefused}
+use Rattle.rules.specs.Verdict.{Headers, platformFaults, initializationFaults, directiveFaults, platformsRefusal, initializationsRefusal, directivesRefusal}
+use Rattle.rules.proofs.Acceptance.{platforms-say, initializations-say, headers-say}
+use Rattle.directive_pass.proofs.DirectivePass.{directives-end}
+use Rattle.platform_rows.specs.Accepted.{PlatformsAccepted, HoldsCca}
+use Rattle.initialization_rows.specs.Accepted.{InitializationsAccepted}
+use Rattle.directive_rows.specs.Accepted.{firstDirective, DirectivesAccepted, anyLacks}
+use Rattle.directive_rows.specs.Sound.{HoldsTables}
+use Rattle.acceptance.specs.Kept.{Kept, RowsAccepted, ListsAccepted}
+
+-- the table lies in the sheet
+pub table-room : (s : List ℕ) → isFault (startFault limits s) ≡ false → bodiesAt (headOf s) ≤ length s
+table-room s e = start-says limits s .0 e .table
+
+-- every row read, and no byte left over
+pub rows-read : (s : List ℕ) (c : Cursor) → ReadTo s c → rowCount (headOf s) ≤ c .row → length s ≤ c .at → isRefusal (rowsRefusal s) ≡ false
+unfolding endFault
+rows-read s c r l whole =
+    let high = r .high in
+    let e : c .row ≡ rowCount (headOf s) = omega arith in
+    let at : c .at ≡ offsetOf s (rowCount (headOf s)) = ap (λ (x : Cursor). x .at) (r .at) ∙ ap (offsetOf s) e in
+    let none : isFault (endFault s) ≡ false = rw (le-ltb (offsetOf s (rowCount (headOf s))) (length s) (omega arith)) no-fault in
+    rw (rows-end s (rw e at (r .passed)), row-refusal 0 (endFault s)) none
+
+-- the platform rows
+pub platforms-none : (s : List ℕ) (c : Cursor) (cca : ℕ) → PlatformsAccepted s c cca → headOf s .platforms ≤ c .row → 0 < headOf s .platforms
+    → (isRefusal (platformsRefusal (sheetHeaders s)) ≡ false) × HoldsCca cca (sheetHeaders s .platforms)
+platforms-none s c cca a l p =
+    let f = sheetHeaders s in
+    let high = a .high in
+    let n = sheet-counts s .platforms in
+    let e : c .row ≡ f .platforms .count = omega arith in
+    (platforms-say f .1 (none-any (f .platforms .count) (λ i. isFault (platformFaults f i)) .0 (rw e at (a .good)), omega arith), rw e at (a .holds))
+
+-- the initialization rows
+pub initializations-none : (s : List ℕ) (held : RelocRegions) (numbers : List ℕ) (c : Cursor) → InitializationsAccepted s held numbers c
+    → headOf s .platforms + headOf s .initializations ≤ c .row → isRefusal (platformsRefusal (sheetHeaders s)) ≡ false
+    → ListsAccepted s held c × HoldsRows (headOf s .platforms) numbers held (sheetHeaders s .initializations)
+initializations-none s held numbers c a l p =
+    let f = sheetHeaders s in
+    let high = a .high in
+    let n = sheet-counts s .initializations in
+    let e : c .row - headOf s .platforms ≡ f .initializations .count = omega arith in (
+      record {
+        read = a .read;
+        row = omega arith;
+        platforms = p;
+        initializations = initializations-say f .1 (none-any (f .initializations .count) (λ i. isFault (initializationFaults f i)) .0 (rw e at (a .good)));
+        holds = rw e at (a .holds);
+      },
+      rw e at (a .rows),
+    )
+
+-- the regions in the arrays have the page tables
+pub tables-held : (masks gpas sizes vps vtls : List ℕ) (tables : List Bool) (n : ℕ) (xs : Rows IgvmInitializationHeader)
+    → HoldsRegions (regionsIn masks gpas sizes vps vtls tables n) xs → HoldsTables masks gpas sizes tables n xs
+unfolding tableHolds
+tables-held masks gpas sizes vps vtls tables n xs h mask gpa = h .same (tableHolds mask gpa)
+
+-- the directive rows, and 34
+pub all-none : (s masks gpas sizes vps vtls : List ℕ) (tables : List Bool) (n : ℕ) (numbers contexts : List ℕ) (from c : Cursor)
+    → ListsAccepted s (regionsIn masks gpas sizes vps vtls tables n) from → DirectivesAccepted s c contexts → rowCount (headOf s) ≤ c .row → length s ≤ c .at
+    → anyLacks masks vps vtls n contexts ≡ false → HoldsRows (headOf s .platforms) numbers (regionsIn masks gpas sizes vps vtls tables n) (sheetHeaders s .initializations)
+    → RowsAccepted s (regionsIn masks gpas sizes vps vtls tables n) numbers contexts
+unfolding lacksContext
+all-none s masks gpas sizes vps vtls tables n numbers contexts from c lists a l whole lacks rows =
+    let f = sheetHeaders s in
+    let held = regionsIn masks gpas sizes vps vtls tables n in
+    let high = a .read .high in
+    let low = a .low in
+    let k = sheet-counts s .directives in
+    let e : c .row - firstDirective s ≡ f .directives .count = omega arith in
+    let contexts-held : HoldsContexts contexts (f .directives) = rw e at (a .holds) in
+    let none : isFault (refuse (anyRegion (lacksContext contexts) held) (fault 34 0) noFault) ≡ false = rw lacks no-fault in
+    let directives : isRefusal (directivesRefusal f) ≡ false =
+    rw (← directives-end f held contexts (lists .holds) contexts-held (rw e at (a .good))) (row-refusal 0 (refuse (anyRegion (lacksContext contexts) held) (fault 34 0) noFault) ∙ none)
+    in
+    record {
+      read = rows-read s c (a .read) l whole;
+      headers = headers-say f .1 (lists .platforms, lists .initializations, directives);
+      kept = record { regions = lists .holds; rows = rows; masks = contexts-held };
+    }

@@ -1,0 +1,202 @@
+use Rattle.acceptance.specs.Kept.{ListsAccepted}
+use Rattle.initializations.specs.Record.{regionsIn, HoldsRows}
+use Rattle.sheet.specs.Head.{headOf}
+use Rattle.headers.proofs.HeaderLaws.{sheet-counts}
+use Rattle.acceptance.proofs.AcceptanceLaws.{table-room, platforms-none, initializations-none}
+use Rattle.platform_rows.specs.Accepted.{HoldsCca}
+use Rattle.rules.specs.Verdict.{platformsRefusal}
+use Rattle.headers.specs.Headers.{sheetHeaders}
+use Rattle.sheet.proofs.ReadLaws.{read-none}
+use Rattle.sheet.proofs.Readable.{Bounds, start-says, started-bounds}
+use Rattle.sheet.specs.Head.{limits}
+use Rattle.igvm_defs.specs.Refusals.{isRefusal}
+use denote.Ref.{now}
+use native.Mathlib.Omega.{arith}
+use mathlib.Core.Bool.{false, false≢true}
+use mathlib.Core.Path.{_≡_, refl, sym, _∙_}
+use borrow.Author.Needs.{needs}
+use Rattle.acceptance.proofs.accept.Statement.{statement}
+use Rattle.acceptance.proofs.accept.Tie as tie
+use Rattle.acceptance.proofs.accept.Reads as reads
+use Rattle.acceptance.proofs.accept.Lts as lts
+use Rattle.acceptance.proofs.accept_directives.Reads as accept-directives-reads
+use Rattle.initialization_rows.proofs.accept.Reads as accept-reads
+use Rattle.platform_rows.proofs.accept.Reads as accept-reads′
+use Rattle.sheet.proofs.Cursor.new.Reads as new-reads
+
+-- the bounds of the sheet
+bounds : (c : tie.Else2) → Bounds (now (c .before .before .before .before .before .before .before .before .before .before .before .before .before .before .args .s))
+bounds c = started-bounds _ (start-says limits (now (c .before .before .before .before .before .before .before .before .before .before .before .before .before .before .args .s)) .0 (c .before .before .before .before .before .before .before .before .before .before .before .before .before .before .pre .0 .0))
+
+-- the platform rows are in order
+platforms : (c : tie.Else2)
+    → (isRefusal (platformsRefusal (sheetHeaders (now (c .before .before .before .before .before .before .before .before .before .before .before .before .before .before .args .s)))) ≡ false)
+    × HoldsCca (c .before .before .before .before .accept .result .cca) (sheetHeaders (now (c .before .before .before .before .before .before .before .before .before .before .before .before .before .before .args .s)) .platforms)
+platforms c =
+    let l = c .before .if1 .left in
+    let z = c .if2 .left in
+    platforms-none _ _ _ (c .before .before .before .before .accept .ensures) (omega (arith, c .before .before .before .before .before .before .before .before .before .before .before .before .before .before .pre .0)) (omega (arith, c .before .before .before .before .before .before .before .before .before .before .before .before .before .before .pre .0))
+
+-- the initialization rows are in order, and the arrays have their regions
+lists : (c : tie.Else3)
+    → let held = regionsIn (c .before .before .before .before .before .before .before .before .before .before .before .before .before .before .before .before .before .accept2 .last .1 .1 .1 .1 .1 .0) (c .before .before .before .before .before .before .before .before .before .before .before .before .before .before .before .before .before .accept2 .last .1 .1 .1 .1 .1 .1 .0) (c .before .before .before .before .before .before .before .before .before .before .before .before .before .before .before .before .before .accept2 .last .1 .1 .1 .1 .1 .1 .1 .0) (c .before .before .before .before .before .before .before .before .before .before .before .before .before .before .before .before .before .accept2 .last .1 .1 .1 .1 .1 .1 .1 .1 .0) (c .before .before .before .before .before .before .before .before .before .before .before .before .before .before .before .before .before .accept2 .last .1 .1 .1 .1 .1 .1 .1 .1 .1 .0) (c .before .before .before .before .before .before .before .before .before .before .before .before .before .before .before .before .before .accept2 .last .1 .1 .1 .1 .1 .1 .1 .1 .1 .1 .0) (c .before .before .before .before .before .before .before .before .before .before .before .before .before .before .before .before .before .accept2 .result .count) in
+    ListsAccepted (now (c .before .before .before .before .before .before .before .before .before .before .before .before .before .before .before .before .before .before .before .before .before .before .before .before .before .before .before .before .before .before .before .before .before .before .before .before .before .before .before .args .s)) held (c .before .before .before .before .before .before .before .before .before .before .before .before .before .before .before .before .before .accept2 .result .at)
+    × HoldsRows (headOf (now (c .before .before .before .before .before .before .before .before .before .before .before .before .before .before .before .before .before .before .before .before .before .before .before .before .before .before .before .before .before .before .before .before .before .before .before .before .before .before .before .args .s)) .platforms) (c .before .before .before .before .before .before .before .before .before .before .before .before .before .before .before .before .before .accept2 .last .1 .1 .1 .1 .1 .1 .1 .1 .1 .1 .1 .0) held (sheetHeaders (now (c .before .before .before .before .before .before .before .before .before .before .before .before .before .before .before .before .before .before .before .before .before .before .before .before .before .before .before .before .before .before .before .before .before .before .before .before .before .before .before .args .s)) .initializations)
+lists c =
+    let l = c .if3 .left in
+    initializations-none _ _ _ _ (c .before .before .before .before .before .before .before .before .before .before .before .before .before .before .before .before .before .accept2 .ensures) (omega (arith, c .before .before .before .before .before .before .before .before .before .before .before .before .before .before .before .before .before .before .before .before .before .before .before .before .before .before .before .before .before .before .before .before .before .before .before .before .before .before .before .pre .0)) (platforms (c .before .before .before .before .before .before .before .before .before .before .before .before .before .before .before .before .before .before .before .before .before .before .before .before .before) .0)
+
+-- src/lib.rt:86:42
+new-requires : tie.Need-new-requires
+new-requires c κs =
+    let b = started-bounds _ (start-says limits _ .0 (c .before .before .before .before .before .before .before .before .pre .0 .0)) in
+    omega (arith, b, c .before .before .before .before .before .before .before .before .pre .0)
+
+-- src/lib.rt:86:9
+accept-requires : tie.Need-accept-requires
+accept-requires c κs =
+    let p = c .before .before .before .before .before .before .before .before .before .pre .0 in
+    ((table-room _ (p .0), rw (c .new .ensures, p .3) (read-none _ (table-room _ (p .0))), rw (c .new .ensures), p .1), p .4)
+
+-- src/lib.rt:89:9
+returns : tie.Need-returns
+returns c = (c .before .before .before .accept .ensures .read, λ e. absurd (false≢true e))
+
+-- src/lib.rt:96:9
+returns-2 : tie.Need-returns-2
+returns-2 c = (c .before .before .before .before .accept .ensures .read, λ e. absurd (false≢true e))
+
+-- src/lib.rt:105:9
+add-accept : tie.Need-add-accept
+add-accept c = search needs
+
+-- src/lib.rt:102:9
+accept-requires-2 : tie.Need-accept-requires-2
+accept-requires-2 c κs =
+    let e = c .before .before .before .before .before .before .before in
+    let st = c .before .before .before .before .before .before .before .before .before .before .before .before .before .before .before .before .before .before .before .before .before .pre in
+    let a = e .before .before .before .before .accept .ensures in
+    let high = a .high in
+    let l = e .before .if1 .left in
+    let b = bounds e in
+    let n = st .1 .0 in (
+      (table-room _ (st .0 .0), a .read, omega (arith, st .0), rw (st .0 .1, st .0 .2)),
+      (
+        (b .platforms, b .initializations, st .0 .4, platforms e .1),
+        rw (← st .0 .2) n,
+      ),
+    )
+
+-- src/lib.rt:118:16
+add-if3 : tie.Need-add-if3
+add-if3 c = let b = bounds (c .before .before .before .before .before .before .before .before .before .before .before .before .before .before .before .before .before .before .before .before .before .before .before) in omega (arith, b, c .before .before .before .before .before .before .before .before .before .before .before .before .before .before .before .before .before .before .before .before .before .before .before .before .before .before .before .before .before .before .before .before .before .before .before .before .before .pre .0)
+
+-- src/lib.rt:119:9
+same-length : tie.Need-same-length
+same-length c = search needs
+
+-- src/lib.rt:119:9
+same-length-2 : tie.Need-same-length-2
+same-length-2 c = search needs
+
+-- src/lib.rt:119:9
+same-length-3 : tie.Need-same-length-3
+same-length-3 c = search needs
+
+-- src/lib.rt:119:9
+same-length-4 : tie.Need-same-length-4
+same-length-4 c = search needs
+
+-- src/lib.rt:119:9
+same-length-5 : tie.Need-same-length-5
+same-length-5 c = search needs
+
+-- src/lib.rt:119:9
+same-length-6 : tie.Need-same-length-6
+same-length-6 c = search needs
+
+-- src/lib.rt:119:9
+same-length-7 : tie.Need-same-length-7
+same-length-7 c = search needs
+
+-- src/lib.rt:119:9
+returns-3 : tie.Need-returns-3
+returns-3 c = (c .before .before .before .before .before .before .before .before .before .before .before .before .before .before .before .before .before .accept2 .ensures .read, λ e. absurd (false≢true e))
+
+-- src/lib.rt:125:5
+accept-directives-requires : tie.Need-accept-directives-requires
+accept-directives-requires c κs =
+    let e = c .before .before .before .before .before .before .before in
+    let st = c .before .before .before .before .before .before .before .before .before .before .before .before .before .before .before .before .before .before .before .before .before .before .before .before .before .before .before .before .before .before .before .before .before .before .before .before .before .before .before .before .before .before .before .before .before .before .pre in
+    let a = lists e in
+    let n = a .0 .holds .count in
+    let k = sheet-counts (now (c .before .before .before .before .before .before .before .before .before .before .before .before .before .before .before .before .before .before .before .before .before .before .before .before .before .before .before .before .before .before .before .before .before .before .before .before .before .before .before .before .before .before .before .before .before .before .args .s)) .initializations in (
+      (st .0 .0, st .0 .3, st .0 .4),
+      (
+        (omega (arith, st .1 .0), omega (arith, st .1 .0), omega (arith, st .1 .0), omega (arith, st .1 .0), omega (arith, st .1 .0), omega (arith, st .1 .0)),
+        (a .0, st .1 .1),
+      ),
+    )
+
+-- src/lib.rt:66:1
+same-length-8 : tie.Need-same-length-8
+same-length-8 c = search needs
+
+-- src/lib.rt:66:1
+same-length-9 : tie.Need-same-length-9
+same-length-9 c = search needs
+
+-- src/lib.rt:66:1
+same-length-10 : tie.Need-same-length-10
+same-length-10 c = search needs
+
+-- src/lib.rt:66:1
+same-length-11 : tie.Need-same-length-11
+same-length-11 c = search needs
+
+-- src/lib.rt:66:1
+same-length-12 : tie.Need-same-length-12
+same-length-12 c = search needs
+
+-- src/lib.rt:66:1
+same-length-13 : tie.Need-same-length-13
+same-length-13 c = search needs
+
+-- src/lib.rt:66:1
+same-length-14 : tie.Need-same-length-14
+same-length-14 c = search needs
+
+-- src/lib.rt:66:1
+returns-4 : tie.Need-returns-4
+returns-4 c =
+    let d = c .accept-directives .ensures in
+    (d .0 .0, λ t. rw (d .0 .1) (d .1 _ (lists (c .before .before .before .before .before .before .before .before) .1) t))
+
+pub accept-spec : {M : Type 1} → statement M
+accept-spec =
+    tie.close
+    (tie.spec
+    new-requires
+    accept-requires
+    returns
+    returns-2
+    add-accept
+    accept-requires-2
+    add-if3
+    same-length
+    same-length-2
+    same-length-3
+    same-length-4
+    same-length-5
+    same-length-6
+    same-length-7
+    returns-3
+    accept-directives-requires
+    same-length-8
+    same-length-9
+    same-length-10
+    same-length-11
+    same-length-12
+    same-length-13
+    same-length-14
+    returns-4)
