@@ -5,11 +5,14 @@ use mathlib.Core.Bool.{true, false}
 use mathlib.Core.List.{List}
 use Prim.Native.Nat.{ℕ, _+_}
 use Rattle.igvm_defs.specs.declared.Refusal.{Refusal}
-use Rattle.igvm_defs.specs.Refusals.{noRefusal, isRefusal, inRow, firstFault}
+use Rattle.igvm_defs.specs.Refusals.{noRefusal, isFault, isRefusal, inRow, firstFault}
 use Rattle.igvm_defs.proofs.RefusalLaws.{row-refusal, else-refusal, no-fault-row, orElse-first, orElse-later}
 use Rattle.rows.proofs.Bools.{or-false-parts}
-use Rattle.sheet.specs.Head.{Limits, headOf}
-use Rattle.sheet.specs.Read.{sheetRefusal}
+use Rattle.sheet.specs.Head.{Limits, headOf, startFault, pageSizeFault}
+use Rattle.sheet.specs.Read.{rowsRefusal, sheetRefusal}
+use Rattle.sheet.proofs.ReadLaws.{start-stop, sheet-stop, sheet-end}
+use Rattle.rules.specs.Accepted.{NotRefused}
+use Rattle.rules.proofs.Acceptance.{headers-say}
 use Rattle.headers.specs.Headers.{sheetHeaders}
 use Rattle.rules.specs.Verdict.{Headers, directiveFaults, noMatchingVpContext, platformsRefusal, initializationsRefusal, directivesRefusal, headersRefusal}
 use Rattle.answers.specs.declared.Verdict.{Verdict}
@@ -20,15 +23,15 @@ abbrev pub refusedVerdict : Refusal → Verdict
 refusedVerdict r = record { refusal = r; platforms = 0; initializations = 0; directives = 0 }
 
 module _ (h : Headers) where
-  headers-platforms : isRefusal (platformsRefusal h) ≡ true → headersRefusal h ≡ platformsRefusal h
+  pub headers-platforms : isRefusal (platformsRefusal h) ≡ true → headersRefusal h ≡ platformsRefusal h
   unfolding headersRefusal
   headers-platforms t = orElse-first (platformsRefusal h) _ t
 
-  headers-initializations : isRefusal (platformsRefusal h) ≡ false → isRefusal (initializationsRefusal h) ≡ true → headersRefusal h ≡ initializationsRefusal h
+  pub headers-initializations : isRefusal (platformsRefusal h) ≡ false → isRefusal (initializationsRefusal h) ≡ true → headersRefusal h ≡ initializationsRefusal h
   unfolding headersRefusal
   headers-initializations p t = orElse-later (platformsRefusal h) _ p ∙ orElse-first (initializationsRefusal h) _ t
 
-  headers-directives : isRefusal (platformsRefusal h) ≡ false → isRefusal (initializationsRefusal h) ≡ false → headersRefusal h ≡ directivesRefusal h
+  pub headers-directives : isRefusal (platformsRefusal h) ≡ false → isRefusal (initializationsRefusal h) ≡ false → headersRefusal h ≡ directivesRefusal h
   unfolding headersRefusal
   headers-directives p i = orElse-later (platformsRefusal h) _ p ∙ orElse-later (initializationsRefusal h) _ i
 
@@ -41,35 +44,54 @@ module _ (h : Headers) where
       orElse-later rows (inRow 0 (noMatchingVpContext h)) a ∙ no-fault-row 0 (noMatchingVpContext h) (rw row-refusal at b)
 
 module _ (l : Limits) (s : List ℕ) where
-  refused : (r : Refusal) → verdictRefusal l s ≡ r → isRefusal r ≡ true → verdictOf l s ≡ refusedVerdict r
+  pub refused : (r : Refusal) → verdictRefusal l s ≡ r → isRefusal r ≡ true → verdictOf l s ≡ refusedVerdict r
   unfolding verdictOf
   refused r e t = rw (e, t)
 
-  later : isRefusal (sheetRefusal l s) ≡ false → verdictRefusal l s ≡ headersRefusal (sheetHeaders s)
+  pub later : isRefusal (sheetRefusal l s) ≡ false → verdictRefusal l s ≡ headersRefusal (sheetHeaders s)
   unfolding verdictRefusal
   later e = orElse-later (sheetRefusal l s) _ e
-
-  -- ---- where the verdict stops
-
-  pub verdict-sheet : isRefusal (sheetRefusal l s) ≡ true → verdictOf l s ≡ refusedVerdict (sheetRefusal l s)
-  unfolding verdictRefusal
-  verdict-sheet t = refused (sheetRefusal l s) (orElse-first (sheetRefusal l s) _ t) t
-
-  pub verdict-platforms : isRefusal (sheetRefusal l s) ≡ false → isRefusal (platformsRefusal (sheetHeaders s)) ≡ true
-      → verdictOf l s ≡ refusedVerdict (platformsRefusal (sheetHeaders s))
-  verdict-platforms e t = refused (platformsRefusal (sheetHeaders s)) (later e ∙ headers-platforms (sheetHeaders s) t) t
-
-  pub verdict-initializations : isRefusal (sheetRefusal l s) ≡ false → isRefusal (platformsRefusal (sheetHeaders s)) ≡ false
-      → isRefusal (initializationsRefusal (sheetHeaders s)) ≡ true → verdictOf l s ≡ refusedVerdict (initializationsRefusal (sheetHeaders s))
-  verdict-initializations e p t = refused (initializationsRefusal (sheetHeaders s)) (later e ∙ headers-initializations (sheetHeaders s) p t) t
-
-  pub verdict-directives : isRefusal (sheetRefusal l s) ≡ false → isRefusal (platformsRefusal (sheetHeaders s)) ≡ false
-      → isRefusal (initializationsRefusal (sheetHeaders s)) ≡ false → isRefusal (directivesRefusal (sheetHeaders s)) ≡ true
-      → verdictOf l s ≡ refusedVerdict (directivesRefusal (sheetHeaders s))
-  verdict-directives e p i t = refused (directivesRefusal (sheetHeaders s)) (later e ∙ headers-directives (sheetHeaders s) p i) t
 
   pub verdict-accepted : isRefusal (sheetRefusal l s) ≡ false → isRefusal (platformsRefusal (sheetHeaders s)) ≡ false
       → isRefusal (initializationsRefusal (sheetHeaders s)) ≡ false → isRefusal (directivesRefusal (sheetHeaders s)) ≡ false
       → verdictOf l s ≡ record { refusal = noRefusal; platforms = headOf s .platforms; initializations = headOf s .initializations; directives = headOf s .directives }
   unfolding verdictOf isRefusal
   verdict-accepted e p i d = rw (later e ∙ headers-directives (sheetHeaders s) p i ∙ directives-none (sheetHeaders s) d)
+
+  -- where none of 1 to 34 applies
+  pub verdict-none : isRefusal (sheetRefusal l s) ≡ false → NotRefused (sheetHeaders s)
+      → (verdictOf l s ≡ record { refusal = noRefusal; platforms = headOf s .platforms; initializations = headOf s .initializations; directives = headOf s .directives })
+  verdict-none e h = let (p, i, d) = headers-say (sheetHeaders s) .0 h in verdict-accepted e p i d
+
+  pub verdict-parts : isRefusal (verdictRefusal l s) ≡ false → (isRefusal (sheetRefusal l s) ≡ false) × NotRefused (sheetHeaders s)
+  unfolding verdictRefusal
+  verdict-parts e = or-false-parts (isRefusal (sheetRefusal l s)) (isRefusal (headersRefusal (sheetHeaders s))) (rw else-refusal at e)
+
+  -- the head, or the table
+  pub verdict-start : isFault (startFault l s) ≡ true → verdictRefusal l s ≡ inRow 0 (startFault l s)
+  unfolding verdictRefusal
+  verdict-start e =
+      let q = start-stop l s e in
+      let r : isRefusal (sheetRefusal l s) ≡ true = rw (q, row-refusal) e in
+      orElse-first (sheetRefusal l s) _ r ∙ q
+
+  -- the rows
+  pub verdict-rows : isFault (startFault l s) ≡ false → isRefusal (rowsRefusal s) ≡ true → verdictRefusal l s ≡ rowsRefusal s
+  unfolding verdictRefusal
+  verdict-rows e t =
+      let q = sheet-stop l s e t in
+      let r : isRefusal (sheetRefusal l s) ≡ true = rw q t in
+      orElse-first (sheetRefusal l s) _ r ∙ q
+
+  -- the page size
+  pub verdict-size : isFault (startFault l s) ≡ false → isRefusal (rowsRefusal s) ≡ false → isRefusal (inRow 0 (pageSizeFault (headOf s))) ≡ true
+      → verdictRefusal l s ≡ inRow 0 (pageSizeFault (headOf s))
+  unfolding verdictRefusal
+  verdict-size e r t =
+      let q = sheet-end l s e r in
+      let u : isRefusal (sheetRefusal l s) ≡ true = rw q t in
+      orElse-first (sheetRefusal l s) _ u ∙ q
+
+  pub sheet-none : isFault (startFault l s) ≡ false → isRefusal (rowsRefusal s) ≡ false → isRefusal (inRow 0 (pageSizeFault (headOf s))) ≡ false
+      → isRefusal (sheetRefusal l s) ≡ false
+  sheet-none e r t = rw (sheet-end l s e r) t

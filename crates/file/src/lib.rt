@@ -10,7 +10,8 @@ ghost use Rattle.sheet.specs.Walk.{ReadTo};
 ghost use Rattle.initializations.specs.Record.{regionsIn};
 ghost use Rattle.answers.specs.Verdict.{verdictOf, verdictRefusal};
 ghost use Rattle.acceptance.specs.Kept.{Kept};
-ghost use Rattle.file.specs.Judged.{HeadersPassed};
+ghost use Rattle.sheet.specs.Read.{sheetRefusal};
+ghost use Rattle.file.specs.Judged.{HeadersPassed, VerdictPassed};
 use answers::Verdict;
 use directive_pass::DirectivesPass;
 use igvm_defs::Refusal;
@@ -95,9 +96,7 @@ pub struct Judged {
 fn keep_contexts(contexts: &mut [u32; 3], found: [u32; 3])
     ensures { λ _. ⌜ now (contexts .exit) ≡ found ⌝ }
 {
-    contexts[0] = found[0];
-    contexts[1] = found[1];
-    contexts[2] = found[2];
+    *contexts = found;
 }
 
 // By the passes over the headers, where the rows before the cursor were read.
@@ -113,7 +112,12 @@ fn judge_from<'a>(
     tables: &'a mut [bool],
     rows: &'a mut [u16],
     contexts: &mut [u32; 3],
-) -> Judged {
+) -> Judged
+    requires { ⌜ (isFault (startFault limits (now s)) ≡ false) × (head ≡ headOf (now s)) × ReadTo (now s) from ⌝ }
+    requires { ⌜ (headOf (now s) .initializations ≤ length (now masks)) × (headOf (now s) .initializations ≤ length (now gpas)) × (headOf (now s) .initializations ≤ length (now sizes)) × (headOf (now s) .initializations ≤ length (now vps)) × (headOf (now s) .initializations ≤ length (now vtls)) × (headOf (now s) .initializations ≤ length (now tables)) × (headOf (now s) .initializations ≤ length (now rows)) ⌝ }
+    ensures { λ r. ⌜ r .verdict ≡ verdictOf limits (now (s .entry)) ⌝ }
+    ensures { λ r. ⌜ (isRefusal (verdictRefusal limits (now (s .entry))) ≡ false → Kept (now (s .entry)) (regionsIn (now (masks .exit)) (now (gpas .exit)) (now (sizes .exit)) (now (vps .exit)) (now (vtls .exit)) (now (tables .exit)) (r .count)) (now (rows .exit)) (now (contexts .exit))) ⌝ }
+{
     let pass = validate_from(s, head, from);
     let refusal = pass.refusal;
     if refusal.is_refusal() {
@@ -143,7 +147,13 @@ fn judge_rows<'a>(
     tables: &'a mut [bool],
     rows: &'a mut [u16],
     contexts: &mut [u32; 3],
-) -> Judged {
+) -> Judged
+    requires { ⌜ (isFault (startFault limits (now s)) ≡ false) × (head ≡ headOf (now s)) ⌝ }
+    requires { ⌜ (headOf (now s) .initializations ≤ length (now masks)) × (headOf (now s) .initializations ≤ length (now gpas)) × (headOf (now s) .initializations ≤ length (now sizes)) × (headOf (now s) .initializations ≤ length (now vps)) × (headOf (now s) .initializations ≤ length (now vtls)) × (headOf (now s) .initializations ≤ length (now tables)) × (headOf (now s) .initializations ≤ length (now rows)) ⌝ }
+    requires { ⌜ now contexts ≡ (0 ∷ 0 ∷ 0 ∷ []) ⌝ }
+    ensures { λ r. ⌜ r .verdict ≡ verdictOf limits (now (s .entry)) ⌝ }
+    ensures { λ r. ⌜ (isRefusal (verdictRefusal limits (now (s .entry))) ≡ false → Kept (now (s .entry)) (regionsIn (now (masks .exit)) (now (gpas .exit)) (now (sizes .exit)) (now (vps .exit)) (now (vtls .exit)) (now (tables .exit)) (r .count)) (now (rows .exit)) (now (contexts .exit))) ⌝ }
+{
     let p = head.platforms as usize;
     let i = head.initializations as usize;
     let x64 = head.revision().arch().is_x64();
@@ -195,7 +205,12 @@ pub fn judge<'a>(
     tables: &'a mut [bool],
     rows: &'a mut [u16],
     contexts: &mut [u32; 3],
-) -> Judged {
+) -> Judged
+    requires { ⌜ (64 ≤ length (now masks)) × (64 ≤ length (now gpas)) × (64 ≤ length (now sizes)) × (64 ≤ length (now vps)) × (64 ≤ length (now vtls)) × (64 ≤ length (now tables)) × (64 ≤ length (now rows)) ⌝ }
+    requires { ⌜ now contexts ≡ (0 ∷ 0 ∷ 0 ∷ []) ⌝ }
+    ensures { λ r. ⌜ r .verdict ≡ verdictOf limits (now (s .entry)) ⌝ }
+    ensures { λ r. ⌜ (isRefusal (verdictRefusal limits (now (s .entry))) ≡ false → Kept (now (s .entry)) (regionsIn (now (masks .exit)) (now (gpas .exit)) (now (sizes .exit)) (now (vps .exit)) (now (vtls .exit)) (now (tables .exit)) (r .count)) (now (rows .exit)) (now (contexts .exit))) ⌝ }
+{
     let start = sheet::start_fault(s);
     if start.is_fault() {
         return Judged {
@@ -218,7 +233,10 @@ pub fn judge<'a>(
 }
 
 // The verdict on a sheet of up to four initialization rows: small arrays take less time to clear.
-fn judge_few(s: &[u8], head: SheetHead) -> Verdict {
+fn judge_few(s: &[u8], head: SheetHead) -> Verdict
+    requires { ⌜ (isFault (startFault limits (now s)) ≡ false) × (head ≡ headOf (now s)) × (head .initializations ≤ 4) ⌝ }
+    ensures { λ r. ⌜ r ≡ verdictOf limits (now (s .entry)) ⌝ }
+{
     let mut masks: [u32; 4] = [0; 4];
     let mut gpas: [u64; 4] = [0; 4];
     let mut sizes: [u64; 4] = [0; 4];
@@ -241,7 +259,10 @@ fn judge_few(s: &[u8], head: SheetHead) -> Verdict {
     ).verdict
 }
 
-fn judge_many(s: &[u8], head: SheetHead) -> Verdict {
+fn judge_many(s: &[u8], head: SheetHead) -> Verdict
+    requires { ⌜ (isFault (startFault limits (now s)) ≡ false) × (head ≡ headOf (now s)) ⌝ }
+    ensures { λ r. ⌜ r ≡ verdictOf limits (now (s .entry)) ⌝ }
+{
     let mut masks: [u32; 64] = [0; 64];
     let mut gpas: [u64; 64] = [0; 64];
     let mut sizes: [u64; 64] = [0; 64];

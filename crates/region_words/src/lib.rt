@@ -5,10 +5,12 @@ ghost use Prim.Native.Nat.{_+_, _*_, _≤_};
 ghost use lib.ListN.{length};
 ghost use Rattle.sheet.specs.Head.{limits, headOf};
 ghost use Rattle.sheet.specs.Read.{Readable};
-ghost use Rattle.rules.specs.Relocations.{isRelocatable, relocatableOf, wordsOf, regionCount, regionAt};
+ghost use Rattle.rules.specs.Relocations.{isRelocatable, relocatableOf, wordsOf, regionCount, regionAt, pageTableAt};
 ghost use Rattle.words.specs.Lent.{rowPut, rowsPut};
 ghost use Rattle.answers.specs.Relocations.{sheetInitializations, regionWords};
+ghost use Rattle.regions.specs.Found.{foundTable};
 use initialization_header::IgvmInitializationHeader;
+use regions::FoundTable;
 use rules::IgvmRelocatableRegion;
 use sheet::SheetHead;
 
@@ -41,18 +43,26 @@ fn put_region(given: u32, h: IgvmInitializationHeader, n: usize, words: &mut [u8
     n
 }
 
-// Puts the words of the mask's regions into the lent bytes, in header order.
-pub fn put_regions(s: &[u8], head: SheetHead, given: u32, words: &mut [u8])
+// Puts the words of the mask's regions into the lent bytes, in header order, and finds its page-table region on the way.
+pub fn put_regions(s: &[u8], head: SheetHead, given: u32, words: &mut [u8]) -> FoundTable
     requires { ⌜ Readable limits (now s) × (head ≡ headOf (now s)) × (64 * regionCount (sheetInitializations (now s)) given ≤ length (now words)) ⌝ }
+    ensures { λ r. ⌜ r ≡ foundTable (pageTableAt (sheetInitializations (now (s .entry))) given) ⌝ }
     ensures { λ _. ⌜ now (words .exit) ≡ rowsPut (regionCount (sheetInitializations (now (s .entry))) given) (λ n. regionWords (regionAt (sheetInitializations (now (s .entry))) given n)) (now (words .entry)) ⌝ }
 {
     let n = head.initializations as usize;
     let mut c = sheet::cursor_at(s, head.platforms as usize);
+    let mut found = FoundTable {
+        found: false,
+        table: regions::NO_PAGE_TABLE,
+    };
     let mut count: usize = 0;
     let mut i = 0;
     while i < n {
-        count = put_region(given, headers::initialization_at(s, c), count, words);
+        let h = headers::initialization_at(s, c);
+        found = regions::table_step(given, h, found);
+        count = put_region(given, h, count, words);
         c = c.next(s);
         i += 1;
     }
+    found
 }

@@ -1,15 +1,21 @@
 -- What one row more adds to a count of rows that pass, and to the row found by its number.
 -- Assumes nothing.
-use mathlib.Core.Path.{_≡_, refl}
-use mathlib.Core.Bool.{Bool, cond, _&&_}
+use mathlib.Core.Path.{_≡_, refl, _∙_}
+use mathlib.Core.Bool.{Bool, true, false, not, cond, _&&_}
 use mathlib.Core.Option.{Option, none, some}
-use Prim.Native.Nat.{ℕ, _+_, _≤_}
+use Prim.Native.Nat.{ℕ, zero, suc, _+_, _≤_}
+use native.Mathlib.Nat.{add-zero}
+use native.Mathlib.Numerals.{add-one}
+use native.Mathlib.Omega.{arith}
+use borrow.Author.Tests.{ne-eqb}
 use lib.Dec.{eqb}
-use Rattle.rows.specs.Below.{nthBelow}
+use Rattle.rows.specs.Below.{sumBelow, nthBelow}
 use Rattle.rows.specs.Rows.{Rows, rowAt, before, countOf, nth}
 use Rattle.rows.proofs.BelowLaws.{count-more, count-le, nth-more}
 use Rattle.initialization_header.specs.declared.IgvmInitializationHeader.{IgvmInitializationHeader}
+use Rattle.initialization_header.specs.declared.IgvmInitializationHeader.the-variants.{GuestPolicy, CcaPolicy, RelocatableRegion, PageTableRelocationRegion}
 use Rattle.rules.specs.Relocations.{isRelocatable, isPageTable, relocatableOf, pageTableOf, then, regionCount, regionAt, pageTableAt}
+use Rattle.regions.specs.declared.FoundTable.{FoundTable}
 use Rattle.regions.specs.Found.{foundRegion, foundTable}
 
 -- ---- any rows
@@ -28,6 +34,20 @@ module _ {H A F : Type 0} (p : H → Bool) (of : H → Option A) (found : Option
 
 -- ---- initialization rows
 
+table-is-found : (given : ℕ) (h : IgvmInitializationHeader) → isPageTable given h ≡ true → foundTable (pageTableOf h) .found ≡ true
+table-is-found given (GuestPolicy a b) e = e
+table-is-found given (CcaPolicy a b c) e = e
+table-is-found given (RelocatableRegion a b c d e f g h i j k) t = t
+table-is-found given (PageTableRelocationRegion a b c d e f) t = refl
+
+none-more : (is : Bool) (n : ℕ) (new old : FoundTable) → (is ≡ true → new .found ≡ true) → not (old .found) ≡ eqb n 0
+    → not (cond (is && eqb n 0) new old .found) ≡ eqb (n + cond is 1 0) 0
+none-more true zero new old h e = rw (h refl)
+none-more true (suc n) new old h e =
+    let some-before = ne-eqb (suc n) 0 (omega arith) in
+    rw (some-before, ne-eqb (suc n + 1) 0 (omega arith)) (e ∙ some-before)
+none-more false n new old h e = rw add-zero e
+
 module _ (xs : Rows IgvmInitializationHeader) (given : ℕ) where
   pub regions-more : (i : ℕ) → regionCount (before (i + 1) xs) given ≡ regionCount (before i xs) given + cond (isRelocatable given (xs .row i)) 1 0
   unfolding regionCount
@@ -43,14 +63,27 @@ module _ (xs : Rows IgvmInitializationHeader) (given : ℕ) where
   unfolding regionCount regionAt
   region-more = found-more (isRelocatable given) relocatableOf foundRegion xs
 
-  pub tables-more : (i : ℕ) → countOf (isPageTable given) (before (i + 1) xs) ≡ countOf (isPageTable given) (before i xs) + cond (isPageTable given (xs .row i)) 1 0
+  tables-more : (i : ℕ) → countOf (isPageTable given) (before (i + 1) xs) ≡ countOf (isPageTable given) (before i xs) + cond (isPageTable given (xs .row i)) 1 0
   tables-more i = count-more i (λ j. isPageTable given (xs .row j))
 
-  pub tables-few : (i : ℕ) → countOf (isPageTable given) (before i xs) ≤ i
-  tables-few i = count-le i (λ j. isPageTable given (xs .row j))
-
-  pub table-more : (i : ℕ) → foundTable (pageTableAt (before (i + 1) xs) given)
+  first-more : (i : ℕ) → foundTable (pageTableAt (before (i + 1) xs) given)
       ≡ cond (isPageTable given (xs .row i) && eqb (countOf (isPageTable given) (before i xs)) 0) (foundTable (pageTableOf (xs .row i)))
       (foundTable (pageTableAt (before i xs) given))
   unfolding pageTableAt
-  table-more i = found-more (isPageTable given) pageTableOf foundTable xs i 0
+  first-more i = found-more (isPageTable given) pageTableOf foundTable xs i 0
+
+  none-first : not (foundTable (pageTableAt (before 0 xs) given) .found) ≡ eqb (countOf (isPageTable given) (before 0 xs)) 0
+  unfolding pageTableAt sumBelow nthBelow
+  none-first = refl
+
+  -- no table is found exactly where there is none
+  none-found : (i : ℕ) → not (foundTable (pageTableAt (before i xs) given) .found) ≡ eqb (countOf (isPageTable given) (before i xs)) 0
+  none-found zero = none-first
+  none-found (suc i) =
+      rw (← add-one i, first-more i, tables-more i)
+      (none-more (isPageTable given (xs .row i)) (countOf (isPageTable given) (before i xs)) _ _ (table-is-found given (xs .row i)) (none-found i))
+
+  pub table-more : (i : ℕ) → foundTable (pageTableAt (before (i + 1) xs) given)
+      ≡ cond (isPageTable given (xs .row i) && not (foundTable (pageTableAt (before i xs) given) .found)) (foundTable (pageTableOf (xs .row i)))
+      (foundTable (pageTableAt (before i xs) given))
+  table-more i = rw (none-found i) (first-more i)

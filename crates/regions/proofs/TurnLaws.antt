@@ -61,9 +61,6 @@ module _ (s : List ℕ) (head : SheetHead) (e : head ≡ headOf s) where
       })
 
   -- the end
-  pub rows-few : Readable limits s → head .initializations ≤ 64
-  rows-few ok = rw e (readable-bounds s ok .initializations)
-
   pub all-rows : (i : ℕ) → i ≡ head .initializations → before i (sheetInitializations s) ≡ sheetInitializations s
   unfolding sheetHeaders
   all-rows i h = rw (h, e)

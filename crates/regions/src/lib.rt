@@ -1,10 +1,13 @@
-// The regions of a mask among the initialization rows of a readable sheet: how many, each by its number, and the page-table region.
+// The regions of a mask: how many the arrays of an accepted file have, each by its number among the initialization rows, and the page-table region.
 ghost use mathlib.Core.Path.{_≡_};
-ghost use mathlib.Core.Bool.{cond, _&&_};
+ghost use mathlib.Core.Bool.{false, not, cond, _&&_};
 ghost use Prim.Native.Nat.{_≤_};
+ghost use lib.ListN.{length, getD};
+ghost use Rattle.rows.specs.Below.{countBelow};
+ghost use Rattle.masks.specs.Masks.{matches};
 ghost use Rattle.sheet.specs.Head.{limits, headOf};
 ghost use Rattle.sheet.specs.Read.{Readable};
-ghost use Rattle.rules.specs.Relocations.{isRelocatable, isPageTable, relocatableOf, pageTableOf, regionCount, regionAt, pageTableAt};
+ghost use Rattle.rules.specs.Relocations.{isRelocatable, isPageTable, relocatableOf, pageTableOf, regionAt};
 ghost use Rattle.answers.specs.Relocations.{sheetInitializations};
 ghost use Rattle.regions.specs.Found.{foundRegion, foundTable};
 use initialization_header::IgvmInitializationHeader;
@@ -143,24 +146,23 @@ fn page_table_of(h: IgvmInitializationHeader) -> FoundTable
     }
 }
 
-// ---- over the initialization rows of a readable sheet
+// ---- over the arrays of an accepted file's regions
 
-// How many regions the mask has.
-pub fn count_regions(s: &[u8], head: SheetHead, given: u32) -> usize
-    requires { ⌜ Readable limits (now s) × (head ≡ headOf (now s)) ⌝ }
-    ensures { λ r. ⌜ (r ≡ regionCount (sheetInitializations (now (s .entry))) given) × (r ≤ 64) ⌝ }
+// How many of the first n regions are regions of the mask: no page table, and with every bit of the mask.
+pub fn count_in<'a>(masks: &'a [u32], tables: &'a [bool], n: usize, given: u32) -> usize
+    requires { ⌜ (n ≤ 64) × (n ≤ length (now masks)) × (n ≤ length (now tables)) ⌝ }
+    ensures { λ r. ⌜ (r ≡ countBelow n (λ e. matches given (getD (now (masks .entry)) e 0) && not (getD (now (tables .entry)) e false))) × (r ≤ 64) ⌝ }
 {
-    let n = head.initializations as usize;
-    let mut c = sheet::cursor_at(s, head.platforms as usize);
-    let mut count: usize = 0;
+    let mut count = 0;
     let mut i = 0;
     while i < n {
-        count += one_if(is_relocatable(given, headers::initialization_at(s, c)), 1) as usize;
-        c = c.next(s);
+        count += one_if(masks::matches(given, masks[i]) & !tables[i], 1) as usize;
         i += 1;
     }
     count
 }
+
+// ---- over the initialization rows of a readable sheet
 
 // The region that was found, or this header's where it is the one looked for.
 fn region_step(
@@ -200,35 +202,12 @@ pub fn region_at(s: &[u8], head: SheetHead, given: u32, k: u64) -> FoundRegion
     found
 }
 
-// The table that was found, or this header's where it is the first.
-fn table_step(given: u32, h: IgvmInitializationHeader, here: bool, found: FoundTable) -> FoundTable
-    ensures { λ r. ⌜ r ≡ cond (isPageTable given h && here) (foundTable (pageTableOf h)) found ⌝ }
+// The table that was found, or this header's where none was found before it.
+pub fn table_step(given: u32, h: IgvmInitializationHeader, found: FoundTable) -> FoundTable
+    ensures { λ r. ⌜ r ≡ cond (isPageTable given h && not (found .found)) (foundTable (pageTableOf h)) found ⌝ }
 {
-    if is_page_table(given, h) & here {
+    if is_page_table(given, h) & !found.found {
         return page_table_of(h);
-    }
-    found
-}
-
-// The page-table region of the mask.
-pub fn page_table_at(s: &[u8], head: SheetHead, given: u32) -> FoundTable
-    requires { ⌜ Readable limits (now s) × (head ≡ headOf (now s)) ⌝ }
-    ensures { λ r. ⌜ r ≡ foundTable (pageTableAt (sheetInitializations (now (s .entry))) given) ⌝ }
-{
-    let n = head.initializations as usize;
-    let mut c = sheet::cursor_at(s, head.platforms as usize);
-    let mut found = FoundTable {
-        found: false,
-        table: NO_PAGE_TABLE,
-    };
-    let mut tables: u64 = 0;
-    let mut i = 0;
-    while i < n {
-        let h = headers::initialization_at(s, c);
-        found = table_step(given, h, tables == 0, found);
-        tables += one_if(is_page_table(given, h), 1);
-        c = c.next(s);
-        i += 1;
     }
     found
 }

@@ -15,7 +15,10 @@ use Rattle.igvm_defs.specs.Refusals.{noFault, noRefusal, isFault, isRefusal, in
 use Rattle.igvm_defs.proofs.RefusalLaws.{orElse-first, orElse-later, else-refusal, row-refusal, no-fault-row, refuse-fault}
 use Rattle.sheet.specs.Head.{Limits, limits}
 use Rattle.sheet.specs.Read.{Readable, sheetRefusal}
-use Rattle.sheet.proofs.Readable.{sheet-says}
+use Rattle.sheet.proofs.Readable.{readable-bounds, sheet-says}
+use Rattle.headers.specs.Headers.{sheetHeaders}
+use Rattle.initializations.specs.declared.RelocRegions.{RelocRegions}
+use Rattle.acceptance.specs.Kept.{Kept}
 use Rattle.rules.specs.Relocations.{regionCount, regionAt, pageTableAt}
 use Rattle.rules.specs.declared.IgvmRelocatableRegion.{IgvmRelocatableRegion}
 use Rattle.rules.specs.declared.PageTableRegion.{PageTableRegion}
@@ -50,14 +53,21 @@ found-count : (n : ℕ) (o : Option PageTableRegion) (r : Refusal) → foundOf n
 found-count n none r = refl
 found-count n (some t) r = refl
 
+-- an accepted sheet is readable
+verdict-readable : (l : Limits) (s : List ℕ) → isRefusal (verdictRefusal l s) ≡ false → Readable l s
+unfolding verdictRefusal
+verdict-readable l s h = sheet-says l s .0 (or-false-parts (isRefusal (sheetRefusal l s)) _ (rw else-refusal at h) .0) .0
+
+-- what is kept of an accepted sheet has 64 regions at most
+pub kept-few : (s : List ℕ) {held : RelocRegions} {numbers contexts : List ℕ} → isRefusal (verdictRefusal limits s) ≡ false → Kept s held numbers contexts → held .count ≤ 64
+unfolding sheetHeaders
+kept-few s h k = let b = readable-bounds s (verdict-readable limits s h) in omega (arith, k .regions .count)
+
 module _ (l : Limits) (s : List ℕ) (given : ℕ) where
   -- a query that is not refused is of a readable sheet
-  pub query-readable : isRefusal (queryRefusal l s given) ≡ false → Readable l s
-  unfolding queryRefusal verdictRefusal
-  query-readable h =
-      let v = or-false-parts (isRefusal (verdictRefusal l s)) _ (rw else-refusal at h) .0 in
-      let r = or-false-parts (isRefusal (sheetRefusal l s)) _ (rw else-refusal at v) .0 in
-      sheet-says l s .0 r .0
+  query-readable : isRefusal (queryRefusal l s given) ≡ false → Readable l s
+  unfolding queryRefusal
+  query-readable h = verdict-readable l s (or-false-parts (isRefusal (verdictRefusal l s)) _ (rw else-refusal at h) .0)
 
   -- what every query is refused by, then a refusal of its own
   both : (own : Refusal) → orElse (verdictRefusal l s) (orElse (inRow 0 (maskFault given)) own) ≡ orElse (queryRefusal l s given) own

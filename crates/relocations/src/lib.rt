@@ -1,44 +1,78 @@
 // The relocation query and the checks on one region, from any byte string.
 ghost use mathlib.Core.Path.{_≡_};
+ghost use mathlib.Core.Bool.{false};
 ghost use mathlib.Core.Option.{none};
+ghost use Prim.Native.Nat.{_≤_};
 ghost use lib.ListN.{length};
-ghost use Rattle.igvm_defs.specs.Refusals.{noRefusal};
+ghost use Rattle.igvm_defs.specs.Refusals.{noRefusal, isRefusal};
 ghost use Rattle.sheet.specs.Head.{limits};
-ghost use Rattle.sheet.specs.Read.{Readable};
-ghost use Rattle.rules.specs.Relocations.{regionCount, pageTableAt};
+ghost use Rattle.rules.specs.Relocations.{regionCount};
 ghost use Rattle.relocations.specs.Query.{queryRefusal};
 ghost use Rattle.answers.specs.Relocations.{sheetInitializations, foundOf, relocationsRefusal, relocationsOf, wordsAfter, checkRefusal, baseCheckOf, containsOf};
 use answers::Checked;
 use answers::Relocations;
 use igvm_defs::Fault;
 use igvm_defs::Refusal;
+use regions::FoundTable;
 use sheet::SheetHead;
 
-// The verdict's refusal, or 35.
-fn query_refusal(s: &[u8], given: u32) -> Refusal
-    ensures { λ r. ⌜ r ≡ queryRefusal limits (now (s .entry)) given ⌝ }
+// The verdict's refusal, or 35; and where neither applies, how many regions the mask has.
+struct Counted {
+    refusal: Refusal,
+    count: usize,
+}
+
+fn query(s: &[u8], given: u32) -> Counted
+    ensures { λ r. ⌜ (r .refusal ≡ queryRefusal limits (now (s .entry)) given) × (r .count ≤ 64) ⌝ }
+    ensures { λ r. ⌜ (isRefusal (r .refusal) ≡ false → r .count ≡ regionCount (sheetInitializations (now (s .entry))) given) ⌝ }
 {
-    let file = file::IgvmFile::new(s);
-    let verdict = file.verdict;
+    let mut masks: [u32; 64] = [0; 64];
+    let mut gpas: [u64; 64] = [0; 64];
+    let mut sizes: [u64; 64] = [0; 64];
+    let mut vps: [u16; 64] = [0; 64];
+    let mut vtls: [u8; 64] = [0; 64];
+    let mut tables: [bool; 64] = [false; 64];
+    let mut rows: [u16; 64] = [0; 64];
+    let mut contexts: [u32; 3] = [0; 3];
+    let judged = file::judge(
+        s,
+        &mut masks,
+        &mut gpas,
+        &mut sizes,
+        &mut vps,
+        &mut vtls,
+        &mut tables,
+        &mut rows,
+        &mut contexts,
+    );
+    let verdict = judged.verdict;
     let refusal = verdict.refusal;
     if refusal.is_refusal() {
-        return refusal;
+        return Counted { refusal, count: 0 };
     }
-    igvm_defs::refuse(given == 0, 35, 0, Fault::NONE).in_row(0)
+    Counted {
+        refusal: igvm_defs::refuse(given == 0, 35, 0, Fault::NONE).in_row(0),
+        count: regions::count_in(&masks, &tables, judged.count, given),
+    }
 }
 
 // ---- the region list
 
 // The verdict's refusal, 35, or 37 where n bytes are lent.
-fn relocations_refusal(s: &[u8], given: u32, n: usize) -> Refusal
-    ensures { λ r. ⌜ r ≡ relocationsRefusal limits (now (s .entry)) given n ⌝ }
+fn relocations_query(s: &[u8], given: u32, n: usize) -> Counted
+    ensures { λ r. ⌜ r .refusal ≡ relocationsRefusal limits (now (s .entry)) given n ⌝ }
+    ensures { λ r. ⌜ (isRefusal (r .refusal) ≡ false → r .count ≡ regionCount (sheetInitializations (now (s .entry))) given) ⌝ }
 {
-    let query = query_refusal(s, given);
-    if query.is_refusal() {
-        return query;
+    let q = query(s, given);
+    let refusal = q.refusal;
+    if refusal.is_refusal() {
+        return q;
     }
-    let count = regions::count_regions(s, SheetHead::new(s), given);
-    igvm_defs::refuse(n / 8 < 8 * count, 37, 0, Fault::NONE).in_row(0)
+    let count = q.count;
+    Counted {
+        refusal: igvm_defs::refuse(n / 8 < 8 * count, 37, 0, Fault::NONE).in_row(0),
+        count,
+    }
 }
 
 fn refused_relocations(refusal: Refusal) -> Relocations
@@ -52,14 +86,10 @@ fn refused_relocations(refusal: Refusal) -> Relocations
     }
 }
 
-// How many regions the mask has, and its page-table region, of a sheet that is not refused.
-fn found(s: &[u8], given: u32) -> Relocations
-    requires { ⌜ Readable limits (now s) ⌝ }
-    ensures { λ r. ⌜ r ≡ foundOf (regionCount (sheetInitializations (now (s .entry))) given) (pageTableAt (sheetInitializations (now (s .entry))) given) noRefusal ⌝ }
+// The answer of a call that is not refused.
+fn found(count: usize, t: FoundTable) -> Relocations
+    ensures { λ r. ⌜ r ≡ record { refusal = noRefusal; count = count; «has_page_table» = t .found; «page_table» = t .table } ⌝ }
 {
-    let head = SheetHead::new(s);
-    let count = regions::count_regions(s, head, given);
-    let t = regions::page_table_at(s, head, given);
     let table = t.table;
     Relocations {
         refusal: Refusal::NONE,
@@ -74,12 +104,13 @@ pub fn relocations(s: &[u8], given: u32, words: &mut [u8]) -> Relocations
     ensures { λ r. ⌜ r ≡ relocationsOf limits (now (s .entry)) given (length (now (words .entry))) ⌝ }
     ensures { λ _. ⌜ now (words .exit) ≡ wordsAfter limits (now (s .entry)) given (now (words .entry)) ⌝ }
 {
-    let refusal = relocations_refusal(s, given, words.len());
+    let q = relocations_query(s, given, words.len());
+    let refusal = q.refusal;
     if refusal.is_refusal() {
         return refused_relocations(refusal);
     }
-    region_words::put_regions(s, SheetHead::new(s), given, words);
-    found(s, given)
+    let table = region_words::put_regions(s, SheetHead::new(s), given, words);
+    found(q.count, table)
 }
 
 // ---- checks on one region
@@ -88,12 +119,12 @@ pub fn relocations(s: &[u8], given: u32, words: &mut [u8]) -> Relocations
 fn check_refusal(s: &[u8], given: u32, region: u64) -> Refusal
     ensures { λ r. ⌜ r ≡ checkRefusal limits (now (s .entry)) given region ⌝ }
 {
-    let query = query_refusal(s, given);
-    if query.is_refusal() {
-        return query;
+    let q = query(s, given);
+    let refusal = q.refusal;
+    if refusal.is_refusal() {
+        return refusal;
     }
-    let count = regions::count_regions(s, SheetHead::new(s), given) as u64;
-    igvm_defs::refuse(!(region < count), 36, 0, Fault::NONE).in_row(0)
+    igvm_defs::refuse(!(region < q.count as u64), 36, 0, Fault::NONE).in_row(0)
 }
 
 // Whether region `region` of the mask may be moved to the base.

@@ -10,10 +10,10 @@ page-table-of-requires : tie.Need-page-table-of-requires
 page-table-of-requires c κs = search needs
 
 returns : tie.Need-returns
-returns c = rw (← c .before .before .is-page-table .ensures, c .before .if1 .taken) (c .page-table-of .ensures)
+returns c = rw (← c .before .before .before .is-page-table .ensures, c .before .if1 .taken) (c .page-table-of .ensures)
 
 returns-2 : tie.Need-returns-2
-returns-2 c = rw (← c .before .is-page-table .ensures, c .if1 .left)
+returns-2 c = rw (← c .before .before .is-page-table .ensures, c .if1 .left)
 
 pub table-step-spec : {M : Type 1} → statement M
 table-step-spec =

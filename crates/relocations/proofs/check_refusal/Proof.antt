@@ -1,43 +1,30 @@
 use mathlib.Core.Path.{_≡_, ap, sym, _∙_}
-use mathlib.Core.Bool.{true, false}
+use mathlib.Core.Bool.{false}
 use denote.Ref.{now}
 use Rattle.igvm_defs.specs.Refusals.{isRefusal, inRow}
 use Rattle.sheet.specs.Head.{limits}
-use Rattle.sheet.proofs.Readable.{readable-bounds}
-use Rattle.sheet.specs.Read.{Readable}
 use Rattle.answers.specs.Relocations.{regionFault}
-use Rattle.relocations.specs.Query.{queryRefusal}
-use Rattle.relocations.proofs.CallLaws.{query-readable, check-stops, region-decides}
+use Rattle.relocations.proofs.CallLaws.{check-stops, region-decides}
 use borrow.Author.Needs.{needs}
 use Rattle.relocations.proofs.check_refusal.Statement.{statement}
 use Rattle.relocations.proofs.check_refusal.Tie as tie
 
 -- nothing is refused so far
-not-refused : (c : tie.Else1) → isRefusal (queryRefusal limits (now (c .before .before .before .before .args .s)) (c .before .before .before .before .args .given)) ≡ false
-not-refused c = rw (c .before .before .query-refusal .ensures) at (sym (c .before .is-refusal .ensures) ∙ c .if1 .left)
+not-refused : (c : tie.Else1) → isRefusal (c .before .before .before .query .result .refusal) ≡ false
+not-refused c = sym (c .before .is-refusal .ensures) ∙ c .if1 .left
 
-passed : (c : tie.Else1) → Readable limits (now (c .before .before .before .before .args .s))
-passed c = query-readable limits _ _ (not-refused c)
-
-query-refusal-requires : tie.Need-query-refusal-requires
-query-refusal-requires c κs = search needs
+query-requires : tie.Need-query-requires
+query-requires c κs = search needs
 
 is-refusal-requires : tie.Need-is-refusal-requires
 is-refusal-requires c κs = search needs
 
 returns : tie.Need-returns
 returns c =
-    let q = c .before .before .query-refusal in
-    let a = c .before .before .before .before .args in
-    q .ensures ∙ check-stops limits (now (a .s)) (a .given) (a .region) (rw (q .ensures) at (sym (c .before .is-refusal .ensures) ∙ c .if1 .taken))
-
-new-requires : tie.Need-new-requires
-new-requires c κs =
-    readable-bounds _ (passed c) .head
-
-count-regions-requires : tie.Need-count-regions-requires
-count-regions-requires c κs =
-    (passed (c .before), c .new .ensures)
+    let q = c .before .before .before .query .ensures in
+    let a = c .before .before .before .before .before .args in
+    let t = sym (c .before .is-refusal .ensures) ∙ c .if1 .taken in
+    q .0 .0 ∙ check-stops limits (now (a .s)) (a .given) (a .region) (rw (q .0 .0) at t)
 
 refuse-requires : tie.Need-refuse-requires
 refuse-requires c κs = search needs
@@ -48,20 +35,14 @@ in-row-requires c κs = search needs
 returns-2 : tie.Need-returns-2
 unfolding regionFault
 returns-2 c =
-    let d = c .before .before .before .before in
-    let a = d .before .before .before .before .args in
-    c .in-row .ensures ∙ ap (inRow 0) (rw (c .before .before .count-regions .ensures .0) at (c .before .refuse .ensures))
-    ∙ region-decides limits (now (a .s)) (a .given) (a .region) (not-refused d)
+    let d = c .before .before in
+    let q = d .before .before .before .query .ensures in
+    let a = d .before .before .before .before .before .args in
+    let count = q .1 (not-refused d) in
+    let own = c .in-row .ensures ∙ ap (inRow 0) (rw count at (c .before .refuse .ensures)) in
+    own ∙ region-decides limits (now (a .s)) (a .given) (a .region) (rw (q .0 .0) at (not-refused d))
 
 pub check-refusal-spec : {M : Type 1} → statement M
 check-refusal-spec =
     tie.close
-    (tie.spec
-    query-refusal-requires
-    is-refusal-requires
-    returns
-    new-requires
-    count-regions-requires
-    refuse-requires
-    in-row-requires
-    returns-2)
+    (tie.spec query-requires is-refusal-requires returns refuse-requires in-row-requires returns-2)

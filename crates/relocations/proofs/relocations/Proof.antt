@@ -7,22 +7,23 @@ use Rattle.sheet.proofs.Readable.{readable-bounds}
 use Rattle.sheet.specs.Read.{Readable}
 use mathlib.Core.Option.{none}
 use lib.ListN.{length}
-use Rattle.answers.specs.Relocations.{foundOf, relocationsRefusal}
-use Rattle.relocations.proofs.CallLaws.{list-readable, refused-answer, refused-words, found-answer, found-words, room}
+use Rattle.rules.specs.Relocations.{pageTableAt}
+use Rattle.answers.specs.Relocations.{sheetInitializations, foundOf, relocationsRefusal}
+use Rattle.relocations.proofs.CallLaws.{list-readable, refused-answer, refused-words, found-table, found-answer, found-words, room}
 use borrow.Author.Needs.{needs}
 use Rattle.relocations.proofs.relocations.Statement.{statement}
 use Rattle.relocations.proofs.relocations.Tie as tie
 
 -- nothing is refused
-not-refused : (c : tie.Else1) → let a = c .before .before .before .before .before .args in
+not-refused : (c : tie.Else1) → let a = c .before .before .before .before .before .before .args in
     isRefusal (relocationsRefusal limits (now (a .s)) (a .given) (length (now (a .words)))) ≡ false
-not-refused c = rw (c .before .before .relocations-refusal .ensures) at (sym (c .before .is-refusal .ensures) ∙ c .if1 .left)
+not-refused c = rw (c .before .before .before .relocations-query .ensures .0) at (sym (c .before .is-refusal .ensures) ∙ c .if1 .left)
 
-passed : (c : tie.Else1) → Readable limits (now (c .before .before .before .before .before .args .s))
+passed : (c : tie.Else1) → Readable limits (now (c .before .before .before .before .before .before .args .s))
 passed c = list-readable limits _ _ _ (not-refused c)
 
-relocations-refusal-requires : tie.Need-relocations-refusal-requires
-relocations-refusal-requires c κs = search needs
+relocations-query-requires : tie.Need-relocations-query-requires
+relocations-query-requires c κs = search needs
 
 is-refusal-requires : tie.Need-is-refusal-requires
 is-refusal-requires c κs = search needs
@@ -32,8 +33,8 @@ refused-relocations-requires c κs = search needs
 
 returns : tie.Need-returns
 returns c =
-    let e = c .before .before .before .relocations-refusal .ensures in
-    let a = c .before .before .before .before .before .before .args in
+    let e = c .before .before .before .before .relocations-query .ensures .0 in
+    let a = c .before .before .before .before .before .before .before .args in
     let t = rw e at (sym (c .before .before .is-refusal .ensures) ∙ c .before .if1 .taken) in (
       c .refused-relocations .ensures ∙ ap (foundOf 0 none) e ∙ refused-answer limits (now (a .s)) (a .given) (length (now (a .words))) t,
       refused-words limits (now (a .s)) (a .given) (now (a .words)) t,
@@ -46,12 +47,11 @@ new-requires c κs =
 put-regions-requires : tie.Need-put-regions-requires
 put-regions-requires c κs =
     let d = c .before .before in
-    let a = d .before .before .before .before .before .args in
+    let a = d .before .before .before .before .before .before .args in
     (passed d, c .before .new .ensures, room limits (now (a .s)) (a .given) (length (now (a .words))) (not-refused d))
 
 found-requires : tie.Need-found-requires
-found-requires c κs =
-    passed (c .before .before .before .before .before)
+found-requires c κs = search needs
 
 same-length : tie.Need-same-length
 same-length c = search needs
@@ -59,16 +59,20 @@ same-length c = search needs
 returns-2 : tie.Need-returns-2
 returns-2 c =
     let d = c .before .before .before .before .before .before in
-    let a = d .before .before .before .before .before .args in (
-      c .found .ensures ∙ found-answer limits (now (a .s)) (a .given) (length (now (a .words))) (not-refused d),
-      c .before .before .before .put-regions .ensures ∙ found-words limits (now (a .s)) (a .given) (now (a .words)) (not-refused d),
+    let a = d .before .before .before .before .before .before .args in
+    let count = d .before .before .before .relocations-query .ensures .1 (sym (d .before .is-refusal .ensures) ∙ d .if1 .left) in
+    let put = c .before .before .before .put-regions .ensures in (
+      c .found .ensures
+          ∙ rw count (found-table _ (pageTableAt (sheetInitializations (now (a .s))) (a .given)) _ (put .0))
+          ∙ found-answer limits (now (a .s)) (a .given) (length (now (a .words))) (not-refused d),
+      put .1 ∙ found-words limits (now (a .s)) (a .given) (now (a .words)) (not-refused d),
     )
 
 pub relocations-spec : {M : Type 1} → statement M
 relocations-spec =
     tie.close
     (tie.spec
-    relocations-refusal-requires
+    relocations-query-requires
     is-refusal-requires
     refused-relocations-requires
     returns

@@ -1,0 +1,75 @@
+use Prim.Native.Nat.{_≤_}
+use Rattle.answers.specs.Verdict.{verdictRefusal}
+use Rattle.rules.specs.Verdict.{platformsRefusal, initializationsRefusal, directivesRefusal, headersRefusal}
+use Rattle.headers.specs.Headers.{sheetHeaders}
+use Rattle.sheet.specs.Read.{Readable, sheetRefusal, rowsRefusal}
+use Rattle.sheet.specs.Head.{limits, headOf, startFault, pageSizeFault}
+use Rattle.sheet.specs.declared.SheetHead.{SheetHead}
+use Rattle.igvm_defs.proofs.RefusalLaws.{row-refusal}
+use Rattle.igvm_defs.specs.Refusals.{isFault, isRefusal, inRow}
+use Rattle.rows.proofs.Bools.{and-parts, not-both}
+use denote.Ref.{now}
+use borrow.Author.Tests.{not-true}
+use native.Mathlib.Omega.{arith}
+use mathlib.Core.Bool.{true, false, true≢false, false≢true}
+use mathlib.Core.Path.{_≡_, refl, sym, ap, _∙_}
+use borrow.Author.Needs.{needs}
+use Rattle.file.proofs.judge_few.Statement.{statement}
+use Rattle.file.proofs.judge_few.Tie as tie
+use Rattle.file.proofs.judge_few.Reads as reads
+use Rattle.file.proofs.judge_few.Lts as lts
+use Rattle.file.proofs.judge_rows.Reads as judge-rows-reads
+
+-- src/lib.rt:251:9
+slice-aggregate-judge-rows : tie.Need-slice-aggregate-judge-rows
+slice-aggregate-judge-rows c = search needs
+
+-- src/lib.rt:252:9
+slice-aggregate-judge-rows-2 : tie.Need-slice-aggregate-judge-rows-2
+slice-aggregate-judge-rows-2 c = search needs
+
+-- src/lib.rt:253:9
+slice-aggregate-judge-rows-3 : tie.Need-slice-aggregate-judge-rows-3
+slice-aggregate-judge-rows-3 c = search needs
+
+-- src/lib.rt:254:9
+slice-aggregate-judge-rows-4 : tie.Need-slice-aggregate-judge-rows-4
+slice-aggregate-judge-rows-4 c = search needs
+
+-- src/lib.rt:255:9
+slice-aggregate-judge-rows-5 : tie.Need-slice-aggregate-judge-rows-5
+slice-aggregate-judge-rows-5 c = search needs
+
+-- src/lib.rt:256:9
+slice-aggregate-judge-rows-6 : tie.Need-slice-aggregate-judge-rows-6
+slice-aggregate-judge-rows-6 c = search needs
+
+-- src/lib.rt:257:9
+slice-aggregate-judge-rows-7 : tie.Need-slice-aggregate-judge-rows-7
+slice-aggregate-judge-rows-7 c = search needs
+
+-- src/lib.rt:248:5
+judge-rows-requires : tie.Need-judge-rows-requires
+judge-rows-requires c κs =
+    let p = c .before .before .before .before .before .before .before .before .before .pre in
+    let e = ap (λ (y : SheetHead). y .initializations) (p .1) in
+    let n : headOf (now (c .before .before .before .before .before .before .before .before .before .args .s)) .initializations ≤ 4 = omega (arith, p) in
+    ((p .0, p .1), ((n, n, n, n, n, n, n), refl))
+
+-- src/lib.rt:236:1
+returns : tie.Need-returns
+returns c = search needs
+
+pub judge-few-spec : {M : Type 1} → statement M
+judge-few-spec =
+    tie.close
+    (tie.spec
+    slice-aggregate-judge-rows
+    slice-aggregate-judge-rows-2
+    slice-aggregate-judge-rows-3
+    slice-aggregate-judge-rows-4
+    slice-aggregate-judge-rows-5
+    slice-aggregate-judge-rows-6
+    slice-aggregate-judge-rows-7
+    judge-rows-requires
+    returns)

@@ -1,0 +1,74 @@
+use Rattle.sheet.proofs.Readable.{start-says, started-bounds}
+use Rattle.answers.specs.Verdict.{verdictRefusal}
+use Rattle.rules.specs.Verdict.{platformsRefusal, initializationsRefusal, directivesRefusal, headersRefusal}
+use Rattle.headers.specs.Headers.{sheetHeaders}
+use Rattle.sheet.specs.Read.{Readable, sheetRefusal, rowsRefusal}
+use Rattle.sheet.specs.Head.{limits, headOf, startFault, pageSizeFault}
+use Rattle.sheet.specs.declared.SheetHead.{SheetHead}
+use Rattle.igvm_defs.proofs.RefusalLaws.{row-refusal}
+use Rattle.igvm_defs.specs.Refusals.{isFault, isRefusal, inRow}
+use Rattle.rows.proofs.Bools.{and-parts, not-both}
+use denote.Ref.{now}
+use borrow.Author.Tests.{not-true}
+use native.Mathlib.Omega.{arith}
+use mathlib.Core.Bool.{true, false, true≢false, false≢true}
+use mathlib.Core.Path.{_≡_, refl, sym, ap, _∙_}
+use borrow.Author.Needs.{needs}
+use Rattle.file.proofs.judge_many.Statement.{statement}
+use Rattle.file.proofs.judge_many.Tie as tie
+use Rattle.file.proofs.judge_many.Reads as reads
+use Rattle.file.proofs.judge_many.Lts as lts
+use Rattle.file.proofs.judge_rows.Reads as judge-rows-reads
+
+-- src/lib.rt:277:9
+slice-aggregate-judge-rows : tie.Need-slice-aggregate-judge-rows
+slice-aggregate-judge-rows c = search needs
+
+-- src/lib.rt:278:9
+slice-aggregate-judge-rows-2 : tie.Need-slice-aggregate-judge-rows-2
+slice-aggregate-judge-rows-2 c = search needs
+
+-- src/lib.rt:279:9
+slice-aggregate-judge-rows-3 : tie.Need-slice-aggregate-judge-rows-3
+slice-aggregate-judge-rows-3 c = search needs
+
+-- src/lib.rt:280:9
+slice-aggregate-judge-rows-4 : tie.Need-slice-aggregate-judge-rows-4
+slice-aggregate-judge-rows-4 c = search needs
+
+-- src/lib.rt:281:9
+slice-aggregate-judge-rows-5 : tie.Need-slice-aggregate-judge-rows-5
+slice-aggregate-judge-rows-5 c = search needs
+
+-- src/lib.rt:282:9
+slice-aggregate-judge-rows-6 : tie.Need-slice-aggregate-judge-rows-6
+slice-aggregate-judge-rows-6 c = search needs
+
+-- src/lib.rt:283:9
+slice-aggregate-judge-rows-7 : tie.Need-slice-aggregate-judge-rows-7
+slice-aggregate-judge-rows-7 c = search needs
+
+-- src/lib.rt:274:5
+judge-rows-requires : tie.Need-judge-rows-requires
+judge-rows-requires c κs =
+    let p = c .before .before .before .before .before .before .before .before .before .pre in
+    let n = started-bounds _ (start-says limits _ .0 (p .0)) .initializations in
+    ((p .0, p .1), ((n, n, n, n, n, n, n), refl))
+
+-- src/lib.rt:262:1
+returns : tie.Need-returns
+returns c = search needs
+
+pub judge-many-spec : {M : Type 1} → statement M
+judge-many-spec =
+    tie.close
+    (tie.spec
+    slice-aggregate-judge-rows
+    slice-aggregate-judge-rows-2
+    slice-aggregate-judge-rows-3
+    slice-aggregate-judge-rows-4
+    slice-aggregate-judge-rows-5
+    slice-aggregate-judge-rows-6
+    slice-aggregate-judge-rows-7
+    judge-rows-requires
+    returns)
