@@ -162,7 +162,7 @@ impl Case {
                 time(vec![(); times], |()| assert_eq!(self.ask(calls, &mut lent), self.number()))
             }
             Plain => {
-                self.plain();
+                let _ = self.plain();
                 time(vec![(); times], |()| self.plain())
             }
             Ready => time(vec![self.headers.clone(); times], |headers| self.rust(headers)),
