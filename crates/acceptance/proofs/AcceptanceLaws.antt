@@ -4,7 +4,7 @@ use Prim.Native.Nat.{ℕ, _+_, _-_, _≤_, _<_}
 use native.Mathlib.Omega.{arith}
 use mathlib.Core.Path.{_≡_, refl, sym, ap, _∙_}
 use mathlib.Core.Bool.{Bool, true, false, not, _&&_}
-use mathlib.Core.List.{List}
+use mathlib.Core.List.{List, [], _∷_}
 use lib.Dec.{eqb, ltb}
 use lib.ListN.{length, getD}
 use borrow.Author.Tests.{le-ltb}
@@ -31,6 +31,7 @@ use Rattle.rules.specs.Regions.{tableHolds}
 use Rattle.rules.specs.Accepted.{NotRefused}
 use Rattle.rules.specs.Verdict.{Headers, platformFaults, initializationFaults, directiveFaults, platformsRefusal, initializationsRefusal, directivesRefusal}
 use Rattle.rules.proofs.Acceptance.{platforms-say, initializations-say, headers-say}
+use Rattle.directives.proofs.DirectiveRecordLaws.{holds-no-contexts}
 use Rattle.directive_pass.proofs.DirectivePass.{directives-end}
 use Rattle.platform_rows.specs.Accepted.{PlatformsAccepted, HoldsCca}
 use Rattle.initialization_rows.specs.Accepted.{InitializationsAccepted}
@@ -110,3 +111,10 @@ all-none s masks gpas sizes vps vtls tables n numbers contexts from c lists a l 
       headers = headers-say f .1 (lists .platforms, lists .initializations, directives);
       kept = record { regions = lists .holds; rows = rows; masks = contexts-held };
     }
+
+-- before the first directive row nothing is passed
+pub none-passed : (s : List ℕ) (c : Cursor) → ReadTo s c → c .row ≤ firstDirective s → firstDirective s ≤ c .row → DirectivesAccepted s c (0 ∷ 0 ∷ 0 ∷ [])
+unfolding anyBelow
+none-passed s c read high low =
+    let z : c .row - firstDirective s ≡ 0 = omega arith in
+    record { read = read; low = low; good = rw z; holds = rw z (holds-no-contexts (sheetHeaders s .directives)) }

@@ -13,6 +13,7 @@ ghost use Rattle.headers.specs.Headers.{sheetHeaders};
 ghost use Rattle.initializations.specs.Record.{regionsIn, HoldsRows};
 ghost use Rattle.initialization_rows.specs.Accepted.{InitializationsAccepted};
 ghost use Rattle.platform_rows.specs.Accepted.{PlatformsAccepted};
+ghost use Rattle.directive_rows.specs.Accepted.{firstDirective, DirectivesAccepted};
 ghost use Rattle.acceptance.specs.Kept.{RowsAccepted, ListsAccepted};
 use sheet::Cursor;
 
@@ -41,7 +42,7 @@ fn accept_directives<'a>(
     requires { ⌜ (isFault (startFault limits (now s)) ≡ false) × (end ≡ rowCount (headOf (now s))) × (x64 ≡ isX64 (sheetHeaders (now s) .arch)) ⌝ }
     requires { ⌜ (n ≤ length (now masks)) × (n ≤ length (now gpas)) × (n ≤ length (now sizes)) × (n ≤ length (now vps)) × (n ≤ length (now vtls)) × (n ≤ length (now tables)) ⌝ }
     requires { ⌜ ListsAccepted (now s) (regionsIn (now masks) (now gpas) (now sizes) (now vps) (now vtls) (now tables) n) from × (now contexts ≡ (0 ∷ 0 ∷ 0 ∷ [])) ⌝ }
-    ensures { λ r. ⌜ ReadTo (now (s .entry)) (r .at) × (r .count ≡ n) ⌝ }
+    ensures { λ r. ⌜ DirectivesAccepted (now (s .entry)) (r .at) (now (contexts .exit)) × (r .count ≡ n) ⌝ }
     ensures { λ r. ⌜ ((numbers : List ℕ) → HoldsRows (headOf (now (s .entry)) .platforms) numbers (regionsIn (now (masks .entry)) (now (gpas .entry)) (now (sizes .entry)) (now (vps .entry)) (now (vtls .entry)) (now (tables .entry)) n) (sheetHeaders (now (s .entry)) .initializations) → r .accepted ≡ true → RowsAccepted (now (s .entry)) (regionsIn (now (masks .entry)) (now (gpas .entry)) (now (sizes .entry)) (now (vps .entry)) (now (vtls .entry)) (now (tables .entry)) n) numbers (now (contexts .exit))) ⌝ }
 {
     let at = directive_rows::accept(s, from, end, x64, masks, gpas, sizes, tables, n, contexts);
@@ -62,7 +63,7 @@ fn accept_directives<'a>(
 }
 
 // The rows of a sheet of p platform rows, i initialization rows and `end` rows in all. The arrays get the regions, each with its row; the masks become those of
-// the contexts.
+// the contexts among the directive rows passed.
 pub fn accept<'a>(
     s: &'a [u8],
     p: usize,
@@ -81,7 +82,7 @@ pub fn accept<'a>(
     requires { ⌜ (isFault (startFault limits (now s)) ≡ false) × (p ≡ headOf (now s) .platforms) × (i ≡ headOf (now s) .initializations) × (end ≡ rowCount (headOf (now s))) × (x64 ≡ isX64 (sheetHeaders (now s) .arch)) ⌝ }
     requires { ⌜ (i ≤ length (now masks)) × (i ≤ length (now gpas)) × (i ≤ length (now sizes)) × (i ≤ length (now vps)) × (i ≤ length (now vtls)) × (i ≤ length (now tables)) × (i ≤ length (now rows)) ⌝ }
     requires { ⌜ now contexts ≡ (0 ∷ 0 ∷ 0 ∷ []) ⌝ }
-    ensures { λ r. ⌜ ReadTo (now (s .entry)) (r .at) × (r .accepted ≡ true → RowsAccepted (now (s .entry)) (regionsIn (now (masks .exit)) (now (gpas .exit)) (now (sizes .exit)) (now (vps .exit)) (now (vtls .exit)) (now (tables .exit)) (r .count)) (now (rows .exit)) (now (contexts .exit))) ⌝ }
+    ensures { λ r. ⌜ ReadTo (now (s .entry)) (r .at) × (r .accepted ≡ true → RowsAccepted (now (s .entry)) (regionsIn (now (masks .exit)) (now (gpas .exit)) (now (sizes .exit)) (now (vps .exit)) (now (vtls .exit)) (now (tables .exit)) (r .count)) (now (rows .exit)) (now (contexts .exit))) × (firstDirective (now (s .entry)) ≤ r .at .row → DirectivesAccepted (now (s .entry)) (r .at) (now (contexts .exit))) ⌝ }
 {
     let first = platform_rows::accept(s, Cursor::new(end), p, x64);
     let a = first.at;

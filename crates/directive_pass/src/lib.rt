@@ -1,19 +1,20 @@
-// The pass over the directive rows of a readable sheet: refusals 21, 22, 24 and 30 to 34.
+// The pass over the directive rows of a readable sheet, from the first row on that is not known to be in order: refusals 21, 22, 24 and 30 to 34.
 ghost use mathlib.Core.Path.{_≡_};
-ghost use Prim.Native.Nat.{_≤_};
-ghost use lib.ListN.{length};
+ghost use mathlib.Core.Bool.{false};
+ghost use Prim.Native.Nat.{_+_, _-_, _<_, _≤_};
+ghost use Rattle.rows.specs.Below.{anyBelow};
+ghost use Rattle.igvm_defs.specs.Refusals.{isFault};
 ghost use Rattle.sheet.specs.Head.{limits, headOf, rowCount};
 ghost use Rattle.sheet.specs.Read.{Readable};
-ghost use Rattle.sheet.specs.Walk.{cursorAt, AtRow};
+ghost use Rattle.sheet.specs.Walk.{cursorAt};
 ghost use Rattle.headers.specs.Headers.{sheetHeaders};
 ghost use Rattle.initialization_header.specs.declared.IgvmInitializationHeader.{IgvmInitializationHeader};
-ghost use Rattle.rows.specs.Rows.{Rows};
-ghost use Rattle.rules.specs.Directives.{insideTable};
+ghost use Rattle.rows.specs.Rows.{Rows, any, before};
+ghost use Rattle.rules.specs.Directives.{allocates, inserts, badArea, insideTable};
+ghost use Rattle.rules.specs.Verdict.{directiveFaults};
 ghost use Rattle.initializations.specs.Record.{anyRegion, HoldsRegions};
-ghost use Rattle.directives.specs.Record.{lacksContext, firstBadArea};
-ghost use Rattle.directive_pass.specs.Areas.{HoldsTables, AreasFilled, BadAreaBy};
-ghost use Rattle.directive_pass.specs.Pages.{firstDirective, goodPage, PagesPassed};
-ghost use Rattle.directive_pass.specs.Passed.{DirectivesPassed};
+ghost use Rattle.directives.specs.Record.{HoldsContexts, lacksContext};
+ghost use Rattle.directive_pass.specs.Passed.{firstDirective, HoldsTables, DirectivesPassed};
 use directive_header::IgvmDirectiveHeader;
 use igvm_defs::Fault;
 use igvm_defs::Refusal;
@@ -22,49 +23,54 @@ use rules::Region;
 use sheet::Cursor;
 use sheet::SheetHead;
 
-// How each directive row names an area, and which.
-fn fill_areas(s: &[u8], head: SheetHead, area: &mut [u32; 1024], how: &mut [u8; 1024])
-    requires { ⌜ Readable limits (now s) × (head ≡ headOf (now s)) × (length (now area) ≡ 1024) × (length (now how) ≡ 1024) ⌝ }
-    ensures { λ _. ⌜ AreasFilled (sheetHeaders (now (s .entry)) .directives) (headOf (now (s .entry)) .directives) (now (area .exit)) (now (how .exit)) ⌝ }
+// ---- 32: the rows before a row are read again
+
+// What some directive rows tell of an area.
+struct KnownArea {
+    allocated: bool,
+    inserted: bool,
+}
+
+// Whether one of the first n directive rows allocates the area, and whether one inserts it.
+fn known_area(s: &[u8], head: SheetHead, n: usize, area: u32) -> KnownArea
+    requires { ⌜ Readable limits (now s) × (head ≡ headOf (now s)) × (n ≤ headOf (now s) .directives) ⌝ }
+    ensures { λ r. ⌜ (r .allocated ≡ any (allocates area) (before n (sheetHeaders (now (s .entry)) .directives))) × (r .inserted ≡ any (inserts area) (before n (sheetHeaders (now (s .entry)) .directives))) ⌝ }
 {
-    let n = head.directives as usize;
-    let first = (head.platforms as usize) + (head.initializations as usize);
-    let mut c = sheet::cursor_at(s, first);
+    let mut c = sheet::cursor_at(
+        s,
+        (head.platforms as usize) + (head.initializations as usize),
+    );
+    let mut allocated = false;
+    let mut inserted = false;
     let mut i = 0;
     while i < n {
         let name = directives::naming(c.kind(s), c.body(s));
-        area[i] = name.area;
-        how[i] = name.how;
+        let same = area == name.area;
+        allocated = allocated | ((name.how == 0) & same);
+        inserted = inserted | ((name.how == 2) & same);
         c = c.next(s);
         i += 1;
     }
+    KnownArea {
+        allocated,
+        inserted,
+    }
 }
 
-// The first directive row, from 0, whose area is bad by the rows before it, or the number of rows.
-fn first_bad_area(s: &[u8], head: SheetHead) -> usize
-    requires { ⌜ Readable limits (now s) × (head ≡ headOf (now s)) ⌝ }
-    ensures { λ r. ⌜ r ≡ firstBadArea (sheetHeaders (now (s .entry)) .directives) ⌝ }
+// Whether the area of directive row i, at the cursor, is bad by the rows before it.
+fn bad_area(s: &[u8], head: SheetHead, c: Cursor, i: usize) -> bool
+    requires { ⌜ Readable limits (now s) × (head ≡ headOf (now s)) × (i < headOf (now s) .directives) × (c ≡ cursorAt (now s) (firstDirective (now s) + i)) ⌝ }
+    ensures { λ r. ⌜ r ≡ badArea (before i (sheetHeaders (now (s .entry)) .directives)) (sheetHeaders (now (s .entry)) .directives .row i) ⌝ }
 {
-    let n = head.directives as usize;
-    let mut area: [u32; 1024] = [0; 1024];
-    let mut how: [u8; 1024] = [0; 1024];
-    fill_areas(s, head, &mut area, &mut how);
-    areas::first_bad(&area[..n], &how[..n])
-}
-
-// What is known of the first bad area before the row at the cursor: `bad`, and, once a row names an area, that row. A number past the rows stands for nothing.
-fn bad_area_by(s: &[u8], head: SheetHead, c: Cursor, bad: usize) -> usize
-    requires { ⌜ Readable limits (now s) × (head ≡ headOf (now s)) × AtRow (now s) c ⌝ }
-    requires { ⌜ (bad ≤ head .directives → bad ≡ firstBadArea (sheetHeaders (now s) .directives)) ⌝ }
-    ensures { λ r. ⌜ BadAreaBy (now (s .entry)) (c .row) r ⌝ }
-{
-    if bad <= head.directives as usize {
-        return bad;
+    let name = directives::naming(c.kind(s), c.body(s));
+    if name.how == 3 {
+        return false;
     }
-    if !directives::names_area(c.kind(s)) {
-        return bad;
+    let known = known_area(s, head, i, name.area);
+    if name.how == 0 {
+        return known.allocated;
     }
-    first_bad_area(s, head)
+    !(known.allocated & !known.inserted)
 }
 
 // 34: some region has a VP index other than 0, or no context.
@@ -116,60 +122,33 @@ fn inside_table<'a>(
     }
 }
 
-// Whether the row at the cursor is a page of data without a fault. Most rows are. The tests stand here once more, without a header, so that the
-// header of any other row is still made in one place only.
-fn is_good_page(s: &[u8], c: Cursor) -> bool
-    requires { ⌜ AtRow (now s) c ⌝ }
-    ensures { λ r. ⌜ r ≡ goodPage (now (s .entry)) (c .row) ⌝ }
-{
-    if c.kind(s) != 32 {
-        return false;
-    }
-    let body = c.body(s);
-    (body.len() <= 4114) & addresses::on_page(le::u64_at(body, 0)) & (le::u16_at(body, 16) <= 3)
-}
-
-// The first row from the cursor on, before row `end`, that is no page of data without a fault; else row `end`.
-fn past_pages(s: &[u8], from: Cursor, end: usize) -> Cursor
-    requires { ⌜ Readable limits (now s) × (from ≡ cursorAt (now s) (from .row)) ⌝ }
-    requires { ⌜ (firstDirective (now s) ≤ from .row) × (from .row ≤ end) × (end ≤ rowCount (headOf (now s))) ⌝ }
-    ensures { λ r. ⌜ PagesPassed (now (s .entry)) (from .row) end r ⌝ }
-{
-    let mut c = from;
-    while c.row < end {
-        if !is_good_page(s, c) {
-            return c;
-        }
-        c = c.next(s);
-    }
-    c
-}
-
 // The refusal, and the contexts' masks, which hold the contexts of all rows where there is no refusal.
 pub struct DirectivesPass {
     pub refusal: Refusal,
     pub contexts: [u32; 3],
 }
 
-// 21, 22, 24 and 30 to 33 of each directive row, then 34.
+// 21, 22, 24 and 30 to 33 of each directive row from the cursor on, then 34. No row before the cursor has a fault, and the masks hold their contexts.
 pub fn validate_directive_headers(
     s: &[u8],
     head: SheetHead,
     regions: RelocRegions,
+    from: Cursor,
+    mut contexts: [u32; 3],
 ) -> DirectivesPass
     requires { ⌜ Readable limits (now s) × (head ≡ headOf (now s)) × HoldsRegions regions (sheetHeaders (now s) .initializations) ⌝ }
+    requires { ⌜ (from ≡ cursorAt (now s) (from .row)) × (firstDirective (now s) ≤ from .row) × (from .row ≤ rowCount (headOf (now s))) ⌝ }
+    requires { ⌜ (anyBelow (from .row - firstDirective (now s)) (λ i. isFault (directiveFaults (sheetHeaders (now s)) i)) ≡ false) × HoldsContexts contexts (before (from .row - firstDirective (now s)) (sheetHeaders (now s) .directives)) ⌝ }
     ensures { λ r. ⌜ DirectivesPassed (now (s .entry)) (r .refusal) (r .contexts) ⌝ }
 {
     let first = (head.platforms as usize) + (head.initializations as usize);
     let n = head.directives as usize;
     let arch = head.revision().arch();
     let held = regions.count;
-    let mut bad = n + 1;
-    let mut c = sheet::cursor_at(s, first);
-    let mut contexts: [u32; 3] = [0; 3];
-    let mut i = 0;
+    let mut c = from;
+    let mut i = from.row - first;
     while i < n {
-        bad = bad_area_by(s, head, c, bad);
+        let bad = bad_area(s, head, c, i);
         let h = headers::directive_at(s, c);
         let inside = inside_table(
             &regions.mask,
@@ -179,7 +158,7 @@ pub fn validate_directive_headers(
             held,
             h,
         );
-        let step = directives::step(contexts, arch, i == bad, inside, h);
+        let step = directives::step(contexts, arch, bad, inside, h);
         let fault = step.fault;
         let next = step.contexts;
         contexts = next;
@@ -189,8 +168,8 @@ pub fn validate_directive_headers(
                 contexts,
             };
         }
-        c = past_pages(s, c.next(s), first + n);
-        i = c.row - first;
+        c = c.next(s);
+        i += 1;
     }
     let refusal = igvm_defs::refuse(
         no_matching_vp_context(regions, contexts),

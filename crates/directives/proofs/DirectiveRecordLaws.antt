@@ -3,24 +3,21 @@
 use Prim.Native.Nat.{ℕ, zero, suc, _+_, _≤_, _<_}
 use native.Mathlib.Omega.{arith}
 use mathlib.Core.Path.{_≡_, refl, sym, ap, _∙_}
-use mathlib.Core.Bool.{Bool, true, false, cond, _&&_, _||_, or-false}
+use mathlib.Core.Bool.{Bool, true, false, cond, not, _&&_, _||_, or-false}
 use mathlib.Core.List.{List, [], _∷_}
 use mathlib.Core.Option.{none}
 use lib.Bits.{bitOr}
 use lib.Dec.{eqb}
-use lib.ListN.{length, getD, set, take, replicate}
+use lib.ListN.{length, getD, set, replicate}
 use lib.Seq.{getD-set-same, getD-set-other}
 use borrow.Author.Tests.{eqb-true, eqb-false}
-use Rattle.rows.specs.Below.{anyBelow, firstBelow}
+use Rattle.rows.specs.Below.{anyBelow}
 use Rattle.rows.specs.Rows.{Rows, any, before}
-use Rattle.rows.proofs.BelowLaws.{any-more, any-same-tests, none-any, first-none, first-same-tests}
+use Rattle.rows.proofs.BelowLaws.{any-more}
 use Rattle.rows.proofs.Bools.{or-false-parts}
 use Rattle.igvm_defs.specs.Kinds.{kindOf, directiveList}
 use Rattle.igvm_defs.proofs.KindLaws.{directive-kind}
 use Rattle.igvm_defs.proofs.Runs.{each, _⨾_}
-use Rattle.areas.specs.Areas.{named, badRow, firstOr, item, firstBad}
-use Rattle.areas.specs.Areas as areas
-use Rattle.areas.proofs.AreaLaws.{first-test, first-bad-same, first-bad-take}
 use Rattle.masks.specs.Masks.{shares}
 use Rattle.masks.proofs.MaskLaws.{shares-zero-left, shares-or}
 use Rattle.directive_header.specs.declared.IgvmDirectiveHeader.{IgvmDirectiveHeader}
@@ -29,7 +26,7 @@ use Rattle.directive_header.specs.Directives.{directiveOf}
 use Rattle.directive_header.specs.Fields.{kindNumber, areaOf, isParameter, areaNamed}
 use Rattle.rules.specs.declared.Region.{Region}
 use Rattle.rules.specs.Directives.{testArea, allocates, inserts, isAllocated, badArea, isContext, noContext}
-use Rattle.directives.specs.Record.{HoldsContexts, lacksContext, howOf, howNamed, namesArea, areaNumber, firstBadArea}
+use Rattle.directives.specs.Record.{HoldsContexts, lacksContext, howOf, howNamed, namesArea, areaNumber}
 
 -- ---- contexts
 
@@ -133,47 +130,15 @@ names-no-area kind n b =
     let (e, p) = or-false-parts (eqb kind 33) (isParameter kind) m in
     rw (e, p, f)
 
--- where no row names an area, none is bad
-pub no-bad-area : (xs : Rows IgvmDirectiveHeader) → ((i : ℕ) → i < xs .count → areaOf (xs .row i) ≡ none) → firstBadArea xs ≡ xs .count
-unfolding firstBadArea badArea
-no-bad-area xs h = ap (firstOr (xs .count)) (first-none (xs .count) (λ i. badArea (before i xs) (xs .row i)) .1 (λ i l. rw (h i l)))
+-- a header allocates or inserts an area as its way of naming one says
+pub allocates-says : (x : ℕ) (h : IgvmDirectiveHeader) → allocates x h ≡ (eqb (howOf h) 0 && eqb x (areaNumber (areaOf h)))
+allocates-says x h = says-how h .allocated x
 
--- the area that row j names, and how
-abbrev pub areaAt : Rows IgvmDirectiveHeader → ℕ → ℕ
-areaAt xs j = areaNumber (areaOf (xs .row j))
+pub inserts-says : (x : ℕ) (h : IgvmDirectiveHeader) → inserts x h ≡ (eqb (howOf h) 2 && eqb x (areaNumber (areaOf h)))
+inserts-says x h = says-how h .inserted x
 
-abbrev pub howAt : Rows IgvmDirectiveHeader → ℕ → ℕ
-howAt xs j = howOf (xs .row j)
-
--- the area of row i is bad where row i breaks the area rule over numbers
-pub bad-area-row : (xs : Rows IgvmDirectiveHeader) (i : ℕ) → badArea (before i xs) (xs .row i) ≡ badRow (areaAt xs) (howAt xs) i
-unfolding badArea isAllocated badRow areas.isAllocated named
-bad-area-row xs i =
-    let x : ℕ = areaAt xs i in
-    let al : any (allocates x) (before i xs) ≡ named (areaAt xs) (howAt xs) 0 i x = any-same-tests i _ _ (λ j l. says-how (xs .row j) .allocated x) in
-    let ins : any (inserts x) (before i xs) ≡ named (areaAt xs) (howAt xs) 2 i x = any-same-tests i _ _ (λ j l. says-how (xs .row j) .inserted x) in
-    says-how (xs .row i) .tested _ _ ∙ rw (al, ins)
-
-pub first-bad-area-rows : (xs : Rows IgvmDirectiveHeader) → firstBadArea xs ≡ firstOr (xs .count) (firstBelow (xs .count) (badRow (areaAt xs) (howAt xs)))
-unfolding firstBadArea
-first-bad-area-rows xs = ap (firstOr (xs .count)) (first-same-tests (xs .count) _ _ (λ i l. bad-area-row xs i))
-
--- lists whose first items are what the rows name, and how, cut to the rows' number
-pub first-bad-area : (xs : Rows IgvmDirectiveHeader) (area how : List ℕ) → xs .count ≤ length area
-    → ((j : ℕ) → j < xs .count → (item area j ≡ areaAt xs j) × (item how j ≡ howAt xs j)) → firstBad (take (xs .count) area) (take (xs .count) how) ≡ firstBadArea xs
-first-bad-area xs area how l same = first-bad-take (xs .count) area how (areaAt xs) (howAt xs) l same ∙ sym (first-bad-area-rows xs)
-
--- the same of lists as long as there are rows
-pub first-bad-area-whole : (xs : Rows IgvmDirectiveHeader) (area how : List ℕ) → length area ≡ xs .count
-    → ((j : ℕ) → j < xs .count → (item area j ≡ areaAt xs j) × (item how j ≡ howAt xs j)) → firstBad area how ≡ firstBadArea xs
-unfolding firstBad
-first-bad-area-whole xs area how e same =
-    rw e (ap (firstOr (xs .count)) (first-bad-same (xs .count) (item area) (item how) (areaAt xs) (howAt xs) same)) ∙ sym (first-bad-area-rows xs)
-
--- with no bad area before it, a row is the first exactly where its area is bad
-pub bad-area-test : (xs : Rows IgvmDirectiveHeader) (i : ℕ) → i < xs .count → ((j : ℕ) → j < i → badArea (before j xs) (xs .row j) ≡ false)
-    → eqb i (firstBadArea xs) ≡ badArea (before i xs) (xs .row i)
-unfolding firstBadArea
-bad-area-test xs i l h =
-    let p : ℕ → Bool = λ j. badArea (before j xs) (xs .row j) in
-    first-test (xs .count) p i l (none-any i p .1 h)
+-- the area of a header is bad by how it names it, and by the headers before it that allocate or insert it
+pub bad-area-says : (earlier : Rows IgvmDirectiveHeader) (h : IgvmDirectiveHeader) → badArea earlier h
+    ≡ cond (eqb (howOf h) 3) false (cond (eqb (howOf h) 0) (any (allocates (areaNumber (areaOf h))) earlier) (not (any (allocates (areaNumber (areaOf h))) earlier && not (any (inserts (areaNumber (areaOf h))) earlier))))
+unfolding badArea isAllocated
+bad-area-says earlier h = says-how h .tested _ _

@@ -6,9 +6,7 @@ use mathlib.Core.Bool.{Bool, cond, not, _&&_, _||_}
 use mathlib.Core.Option.{Option, none, some}
 use lib.Dec.{eqb}
 use lib.ListN.{getD}
-use Rattle.rows.specs.Below.{firstBelow}
 use Rattle.rows.specs.Rows.{Rows, any, before}
-use Rattle.areas.specs.Areas.{firstOr}
 use Rattle.igvm_defs.specs.declared.Arch.{Arch}
 use Rattle.igvm_defs.specs.declared.Fault.{Fault}
 use Rattle.initialization_header.specs.declared.IgvmInitializationHeader.{IgvmInitializationHeader}
@@ -17,7 +15,7 @@ use Rattle.directive_header.specs.declared.IgvmDirectiveHeader.the-variants.{Pa
 use Rattle.directive_header.specs.Fields.{isParameter}
 use Rattle.masks.specs.Masks.{shares}
 use Rattle.rules.specs.declared.Region.{Region}
-use Rattle.rules.specs.Directives.{badArea, directiveFault, isContext}
+use Rattle.rules.specs.Directives.{directiveFault, isContext}
 
 -- the mask of a VTL shares a bit with a mask exactly where a context of that VTL does
 abbrev pub HoldsContexts : List ℕ → Rows IgvmDirectiveHeader → Type 0
@@ -74,7 +72,3 @@ namesArea kind = eqb kind 33 || isParameter kind || eqb kind 50
 abbrev pub areaNumber : Option ℕ → ℕ
 areaNumber none = 0
 areaNumber (some area) = area
-
--- the first row whose area is bad by the rows before it, or the number of rows
-unfoldable pub firstBadArea : Rows IgvmDirectiveHeader → ℕ
-firstBadArea xs = firstOr (xs .count) (firstBelow (xs .count) (λ i. badArea (before i xs) (xs .row i)))

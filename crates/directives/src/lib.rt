@@ -14,7 +14,7 @@ ghost use Rattle.masks.specs.Masks.{shares};
 ghost use Rattle.addresses.specs.Addresses.{onPage};
 ghost use Rattle.directive_header.specs.Fields.{kindNumber, isParameter, areaNamed};
 ghost use Rattle.rules.specs.Directives.{validateDirective, wrongArch, badArea, insideTable};
-ghost use Rattle.directives.specs.Record.{HoldsContexts, lacksContext, namesArea, howNamed, areaNumber, DirectiveStepped};
+ghost use Rattle.directives.specs.Record.{HoldsContexts, lacksContext, howNamed, areaNumber, DirectiveStepped};
 use directive_header::IgvmDirectiveHeader;
 use igvm_defs::Arch;
 use igvm_defs::Fault;
@@ -177,12 +177,6 @@ pub fn is_parameter(kind: u32) -> bool
     ensures { λ r. ⌜ r ≡ isParameter kind ⌝ }
 {
     (34 <= kind) & (kind <= 43)
-}
-
-pub fn names_area(kind: u32) -> bool
-    ensures { λ r. ⌜ r ≡ namesArea kind ⌝ }
-{
-    (kind == 33) | is_parameter(kind) | (kind == 50)
 }
 
 pub struct AreaName {

@@ -8,12 +8,10 @@ ghost use Rattle.igvm_defs.specs.Refusals.{noRefusal, isFault, isRefusal};
 ghost use Rattle.sheet.specs.Head.{limits, headOf, startFault};
 ghost use Rattle.sheet.specs.Walk.{ReadTo};
 ghost use Rattle.initializations.specs.Record.{regionsIn};
+ghost use Rattle.directive_rows.specs.Accepted.{firstDirective, DirectivesAccepted};
 ghost use Rattle.answers.specs.Verdict.{verdictOf, verdictRefusal};
 ghost use Rattle.acceptance.specs.Kept.{Kept};
-ghost use Rattle.sheet.specs.Read.{sheetRefusal};
-ghost use Rattle.file.specs.Judged.{HeadersPassed, VerdictPassed};
 use answers::Verdict;
-use directive_pass::DirectivesPass;
 use igvm_defs::Refusal;
 use sheet::Cursor;
 use sheet::SheetHead;
@@ -40,51 +38,6 @@ fn accepted(head: SheetHead) -> Verdict
     }
 }
 
-// ---- what is wrong, by the passes over the headers
-
-fn no_contexts(refusal: Refusal) -> DirectivesPass
-    ensures { λ r. ⌜ r .refusal ≡ refusal ⌝ }
-{
-    DirectivesPass {
-        refusal,
-        contexts: [0; 3],
-    }
-}
-
-// 8 to 34 of a sheet that none of 1 to 7 refuses, and the contexts' masks where there is none.
-fn validate_headers(s: &[u8], head: SheetHead) -> DirectivesPass
-    requires { ⌜ (isRefusal (sheetRefusal limits (now s)) ≡ false) × (head ≡ headOf (now s)) ⌝ }
-    ensures { λ r. ⌜ HeadersPassed (now (s .entry)) (r .refusal) (r .contexts) ⌝ }
-{
-    let first = passes::validate_platform_headers(s, head);
-    let platforms = first.refusal;
-    if platforms.is_refusal() {
-        return no_contexts(platforms);
-    }
-    let second = passes::validate_initialization_headers(s, head, first.platforms);
-    let initializations = second.refusal;
-    if initializations.is_refusal() {
-        return no_contexts(initializations);
-    }
-    directive_pass::validate_directive_headers(s, head, second.regions)
-}
-
-// 4 to 34, where no row before the cursor has a fault of reading.
-fn validate_from(s: &[u8], head: SheetHead, from: Cursor) -> DirectivesPass
-    requires { ⌜ (isFault (startFault limits (now s)) ≡ false) × (head ≡ headOf (now s)) × ReadTo (now s) from ⌝ }
-    ensures { λ r. ⌜ VerdictPassed (now (s .entry)) (r .refusal) (r .contexts) ⌝ }
-{
-    let read = sheet::read_from(s, head, from);
-    if read.is_refusal() {
-        return no_contexts(read);
-    }
-    let size = head.page_size_fault().in_row(0);
-    if size.is_refusal() {
-        return no_contexts(size);
-    }
-    validate_headers(s, head)
-}
-
 // ---- the verdict
 
 // The verdict, and how many regions an accepted file has.
@@ -93,13 +46,19 @@ pub struct Judged {
     pub count: usize,
 }
 
+fn kept_contexts(contexts: &[u32; 3]) -> [u32; 3]
+    ensures { λ r. ⌜ r ≡ now (contexts .entry) ⌝ }
+{
+    *contexts
+}
+
 fn keep_contexts(contexts: &mut [u32; 3], found: [u32; 3])
     ensures { λ _. ⌜ now (contexts .exit) ≡ found ⌝ }
 {
     *contexts = found;
 }
 
-// By the passes over the headers, where the rows before the cursor were read.
+// By the passes over the headers, where the rows before the cursor were read and the directive rows among them are in order.
 fn judge_from<'a>(
     s: &'a [u8],
     head: SheetHead,
@@ -113,12 +72,12 @@ fn judge_from<'a>(
     rows: &'a mut [u16],
     contexts: &mut [u32; 3],
 ) -> Judged
-    requires { ⌜ (isFault (startFault limits (now s)) ≡ false) × (head ≡ headOf (now s)) × ReadTo (now s) from ⌝ }
+    requires { ⌜ (isFault (startFault limits (now s)) ≡ false) × (head ≡ headOf (now s)) × ReadTo (now s) from × (firstDirective (now s) ≤ from .row → DirectivesAccepted (now s) from (now contexts)) ⌝ }
     requires { ⌜ (headOf (now s) .initializations ≤ length (now masks)) × (headOf (now s) .initializations ≤ length (now gpas)) × (headOf (now s) .initializations ≤ length (now sizes)) × (headOf (now s) .initializations ≤ length (now vps)) × (headOf (now s) .initializations ≤ length (now vtls)) × (headOf (now s) .initializations ≤ length (now tables)) × (headOf (now s) .initializations ≤ length (now rows)) ⌝ }
     ensures { λ r. ⌜ r .verdict ≡ verdictOf limits (now (s .entry)) ⌝ }
     ensures { λ r. ⌜ (isRefusal (verdictRefusal limits (now (s .entry))) ≡ false → Kept (now (s .entry)) (regionsIn (now (masks .exit)) (now (gpas .exit)) (now (sizes .exit)) (now (vps .exit)) (now (vtls .exit)) (now (tables .exit)) (r .count)) (now (rows .exit)) (now (contexts .exit))) ⌝ }
 {
-    let pass = validate_from(s, head, from);
+    let pass = validation::validate_from(s, head, from, kept_contexts(contexts));
     let refusal = pass.refusal;
     if refusal.is_refusal() {
         return Judged {

@@ -2,7 +2,7 @@ use Rattle.acceptance.specs.Kept.{ListsAccepted}
 use Rattle.initializations.specs.Record.{regionsIn, HoldsRows}
 use Rattle.sheet.specs.Head.{headOf}
 use Rattle.headers.proofs.HeaderLaws.{sheet-counts}
-use Rattle.acceptance.proofs.AcceptanceLaws.{table-room, platforms-none, initializations-none}
+use Rattle.acceptance.proofs.AcceptanceLaws.{table-room, platforms-none, initializations-none, none-passed}
 use Rattle.platform_rows.specs.Accepted.{HoldsCca}
 use Rattle.rules.specs.Verdict.{platformsRefusal}
 use Rattle.headers.specs.Headers.{sheetHeaders}
@@ -60,11 +60,18 @@ accept-requires c κs =
 
 -- src/lib.rt:89:9
 returns : tie.Need-returns
-returns c = (c .before .before .before .accept .ensures .read, λ e. absurd (false≢true e))
+returns c = (
+  c .before .before .before .accept .ensures .read,
+  λ e. absurd (false≢true e),
+  λ f. absurd (let t = c .if1 .taken in let p = c .before .before .before .before .before .before .before .before .before .before .before .before .before .pre .0 .1 in omega arith),
+)
 
 -- src/lib.rt:96:9
 returns-2 : tie.Need-returns-2
-returns-2 c = (c .before .before .before .before .accept .ensures .read, λ e. absurd (false≢true e))
+returns-2 c =
+    let a = c .before .before .before .before .accept .ensures in
+    let st = c .before .before .before .before .before .before .before .before .before .before .before .before .before .before .pre in
+    (a .read, λ e. absurd (false≢true e), λ f. rw (st .1 .1) (none-passed _ _ (a .read) (let h = a .high in omega arith) f))
 
 -- src/lib.rt:105:9
 add-accept : tie.Need-add-accept
@@ -121,7 +128,7 @@ same-length-7 c = search needs
 
 -- src/lib.rt:119:9
 returns-3 : tie.Need-returns-3
-returns-3 c = (c .before .before .before .before .before .before .before .before .before .before .before .before .before .before .before .before .before .accept2 .ensures .read, λ e. absurd (false≢true e))
+returns-3 c = (c .before .before .before .before .before .before .before .before .before .before .before .before .before .before .before .before .before .accept2 .ensures .read, λ e. absurd (false≢true e), λ f. absurd (let t = c .if3 .taken in let p = c .before .before .before .before .before .before .before .before .before .before .before .before .before .before .before .before .before .before .before .before .before .before .before .before .before .before .before .before .before .before .before .before .before .before .before .before .before .before .before .pre .0 in omega (arith, p)))
 
 -- src/lib.rt:125:5
 accept-directives-requires : tie.Need-accept-directives-requires
@@ -170,7 +177,7 @@ same-length-14 c = search needs
 returns-4 : tie.Need-returns-4
 returns-4 c =
     let d = c .accept-directives .ensures in
-    (d .0 .0, λ t. rw (d .0 .1) (d .1 _ (lists (c .before .before .before .before .before .before .before .before) .1) t))
+    (d .0 .0 .read, λ t. rw (d .0 .1) (d .1 _ (lists (c .before .before .before .before .before .before .before .before) .1) t), λ _. d .0 .0)
 
 pub accept-spec : {M : Type 1} → statement M
 accept-spec =

@@ -22,7 +22,7 @@ accept-requires c κs =
 
 -- src/lib.rt:49:9
 returns : tie.Need-returns
-returns c = ((c .before .before .accept .ensures .0 .read, refl), λ numbers rows e. absurd (false≢true e))
+returns c = ((c .before .before .accept .ensures .0, refl), λ numbers rows e. absurd (false≢true e))
 
 -- src/lib.rt:56:9
 any-lacks-requires : tie.Need-any-lacks-requires
@@ -36,7 +36,7 @@ returns-2 c =
     let p = c .before .before .before .before .before .before .before .before .before .before .before .before .before .before .pre in
     let a = c .before .before .before .before .before .accept .ensures .0 in
     let l = c .before .before .before .if1 .left in (
-      (a .read, refl),
+      (a, refl),
       λ numbers rows e.
           let (whole, lacks) = and-parts _ _ e in
           all-none _ _ _ _ _ _ _ _ numbers _ _ _ (p .1 .1 .0) a (omega (arith, p .0 .1)) (leb-true _ _ whole) (sym (c .any-lacks .ensures) ∙ not-true _ lacks) rows,

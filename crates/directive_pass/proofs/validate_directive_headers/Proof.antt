@@ -3,21 +3,22 @@ use native.Mathlib.Omega.{arith}
 use mathlib.Core.Path.{_≡_, refl, sym, ap, _∙_}
 use borrow.Author.Needs.{needs}
 use denote.Ref.{now}
-use Rattle.rows.specs.Below.{anyBelow}
 use Rattle.sheet.specs.declared.SheetHead.{SheetHead}
+use Rattle.sheet.specs.Head.{headOf}
+use Rattle.sheet.specs.Walk.{cursorAt}
 use Rattle.headers.specs.Headers.{sheetHeaders}
 use Rattle.headers.proofs.HeaderLaws.{sheet-counts}
 use Rattle.directives.specs.Record.{DirectiveStepped}
-use Rattle.directives.proofs.DirectiveRecordLaws.{holds-no-contexts}
-use Rattle.directive_pass.proofs.DirectivePass.{Reached, cursor-first, reached-bounds, regions-room, holds-tables, reached-row, reached-list, reached-header, reached-bad, with-bad, reached-next, reached-onward, reached-number, reached-passed, reached-stop, reached-end}
+use Rattle.directive_pass.specs.Passed.{firstDirective}
+use Rattle.directive_pass.proofs.DirectivePass.{Reached, reached-bounds, regions-room, holds-tables, reached-row, reached-list, reached-header, reached-next, reached-stop, reached-end}
 use Rattle.directive_pass.proofs.validate_directive_headers.Statement.{statement}
 use Rattle.directive_pass.proofs.validate_directive_headers.Tie as tie
 
 abbrev Inv-loop : tie.InvT-loop
-Inv-loop s head regions first n arch held bad₀ c₀ contexts₀ i₀ bad c contexts i = Reached s regions first n arch bad c contexts i
+Inv-loop s head contexts₀ regions first n arch held c₀ i₀ contexts c i = Reached s regions first n arch c contexts i
 
 abbrev μ-loop : tie.MeasureT-loop
-μ-loop s head regions first n arch held bad₀ c₀ contexts₀ i₀ bad c contexts i = n - i
+μ-loop s head contexts₀ regions first n arch held c₀ i₀ contexts c i = n - i
 
 -- a turn's step tells the row's fault, and the masks with the row's context
 stepped : (c : tie.After-step Inv-loop μ-loop)
@@ -32,7 +33,7 @@ stepped c =
     let r = l .loop .inv in
     let g = c .before .before .before .before .before .before .before .directive-at in
     let h : g .result ≡ f .directives .row (l .loop .i) = rw (g .ensures) (reached-header r) in
-    let bad = rw (← h) at (reached-bad r (t .loop-test .taken) (b .bad-area-by .result) (b .bad-area-by .ensures)) in
+    let bad = rw (← h) at (b .bad-area .ensures) in
     rw (← r .arch)
     (c .step .ensures (f .initializations) (f .directives) (l .loop .i) h bad (c .before .inside-table .ensures (f .initializations) (holds-tables _ (f .initializations) (r .regions))) (r .contexts))
 
@@ -54,38 +55,41 @@ revision-requires c κs = search needs
 arch-requires : tie.Need-arch-requires Inv-loop μ-loop
 arch-requires c κs = search needs
 
-add-bad : tie.Need-add-bad Inv-loop μ-loop
-add-bad c = search needs
-
-cursor-at-requires : tie.Need-cursor-at-requires Inv-loop μ-loop
-cursor-at-requires c κs =
-    let st = c .before .before .before .before .before .before in
-    (st .pre .0, rw (st .pre .1) (omega arith))
+sub-i : tie.Need-sub-i Inv-loop μ-loop
+sub-i c =
+    let st = c .before .before .before .before .before .before .before in
+    let e : st .args .head .platforms + st .args .head .initializations ≡ firstDirective (now (st .args .s)) = ap (λ (h : SheetHead). h .platforms + h .initializations) (st .pre .0 .1) in
+    let l = st .pre .1 .0 .1 in
+    omega arith
 
 loop-holds : tie.Need-loop-holds Inv-loop μ-loop
-unfolding anyBelow
 loop-holds c =
     let st = c .before .before .before .before .before .before .before in
     let s = now (st .args .s) in
-    let e = st .pre .1 in
+    let e = st .pre .0 .1 in
+    let from = st .pre .1 .0 in
+    let low = from .1 in
+    let high = from .2 in
+    let first : st .args .head .platforms + st .args .head .initializations ≡ firstDirective s = ap (λ (h : SheetHead). h .platforms + h .initializations) e in
+    let rows : st .args .head .directives ≡ headOf s .directives = ap (λ (h : SheetHead). h .directives) e in
+    let here : st .args .from .row - (st .args .head .platforms + st .args .head .initializations) ≡ st .args .from .row - firstDirective s = omega arith in
     record {
-      readable = st .pre .0;
-      first = ap (λ (h : SheetHead). h .platforms + h .initializations) e;
-      rows = ap (λ (h : SheetHead). h .directives) e;
+      readable = st .pre .0 .0;
+      first = first;
+      rows = rows;
       arch = rw (c .before .arch .ensures, c .before .before .revision .ensures, e) (sheet-counts s .arch);
-      bad = λ h. absurd (let n = ap (λ (h : SheetHead). h .directives) e in omega arith);
-      regions = st .pre .2;
+      regions = st .pre .0 .2;
       within = omega arith;
-      cursor = rw (c .cursor-at .ensures, e) (cursor-first s);
-      contexts = holds-no-contexts (sheetHeaders s .directives);
-      good = refl;
+      cursor = from .0 ∙ ap (cursorAt s) (omega arith);
+      contexts = rw here (st .pre .1 .1 .1);
+      good = rw here (st .pre .1 .1 .0);
     }
 
-bad-area-by-requires : tie.Need-bad-area-by-requires Inv-loop μ-loop
-bad-area-by-requires c κs =
+bad-area-requires : tie.Need-bad-area-requires Inv-loop μ-loop
+bad-area-requires c κs =
     let r = c .before .loop .inv in
     let st = c .before .before .before .before .before .before .before .before .before in
-    ((r .readable, st .pre .1, reached-row r (c .loop-test .taken)), rw (st .pre .1) (r .bad))
+    (r .readable, st .pre .0 .1, rw (← r .rows) (c .loop-test .taken), r .cursor)
 
 directive-at-requires : tie.Need-directive-at-requires Inv-loop μ-loop
 directive-at-requires c κs =
@@ -130,42 +134,21 @@ next-requires c κs =
     let t = c .before .before .before .before .before .before .before .before .before .before .before .before .before in
     reached-row (t .before .loop .inv) (t .loop-test .taken)
 
-add-past-pages : tie.Need-add-past-pages Inv-loop μ-loop
-add-past-pages c =
+add-i : tie.Need-add-i Inv-loop μ-loop
+add-i c =
     let b = reached-bounds (c .before .before .before .before .before .before .before .before .before .before .before .before .before .before .before .loop .inv) in
-    omega arith
-
-past-pages-requires : tie.Need-past-pages-requires Inv-loop μ-loop
-past-pages-requires c κs =
-    let t = c .before .before .before .before .before .before .before .before .before .before .before .before .before .before in
-    reached-onward (t .before .loop .inv) (t .loop-test .taken) _ (c .next2 .ensures)
-
-sub-i : tie.Need-sub-i Inv-loop μ-loop
-sub-i c =
-    let n = c .before .before in
-    let e = reached-number (n .before .before .before .before .before .before .before .before .before .before .before .before .before .before .before .loop .inv) _ (n .next2 .ensures) in
-    let p = c .before .past-pages .ensures .low in
+    let l = c .before .before .before .before .before .before .before .before .before .before .before .before .before .before .loop-test .taken in
     omega arith
 
 loop-less : tie.Need-loop-less Inv-loop μ-loop
-loop-less c =
-    let n = c .before .before in
-    let t = n .before .before .before .before .before .before .before .before .before .before .before .before .before .before in
-    let l = t .loop-test .taken in
-    let e = reached-number (t .before .loop .inv) _ (n .next2 .ensures) in
-    let p = c .before .past-pages .ensures .low in
-    let q = c .before .past-pages .ensures .high in
-    omega arith
+loop-less c = let l = c .before .before .before .before .before .before .before .before .before .before .before .before .before .before .loop-test .taken in omega arith
 
 loop-again : tie.Need-loop-again Inv-loop μ-loop
 loop-again c =
-    let n = c .before .before in
-    let d = n .before .before .before .before .before in
-    let b = d .before .before .before .before .before .before .before .before in
-    let t = b .before in
-    let e = sym (n .before .before .is-fault .ensures) ∙ n .before .if1 .left in
-    let next = reached-next (with-bad (t .before .loop .inv) _ (b .bad-area-by .ensures)) (t .loop-test .taken) (stepped d) e in
-    reached-passed next _ (rw (n .next2 .ensures) at (c .before .past-pages .ensures))
+    let d = c .before .before .before .before .before in
+    let t = d .before .before .before .before .before .before .before .before .before in
+    let e = sym (c .before .before .is-fault .ensures) ∙ c .before .if1 .left in
+    rw (c .next2 .ensures) (reached-next (t .before .loop .inv) (t .loop-test .taken) (stepped d) e)
 
 no-matching-vp-context-requires : tie.Need-no-matching-vp-context-requires Inv-loop μ-loop
 no-matching-vp-context-requires c κs = regions-room (c .before .loop .inv)
@@ -194,10 +177,9 @@ validate-directive-headers-spec =
     cast-n
     revision-requires
     arch-requires
-    add-bad
-    cursor-at-requires
+    sub-i
     loop-holds
-    bad-area-by-requires
+    bad-area-requires
     directive-at-requires
     inside-table-requires
     step-requires
@@ -207,9 +189,7 @@ validate-directive-headers-spec =
     in-row-requires
     returns
     next-requires
-    add-past-pages
-    past-pages-requires
-    sub-i
+    add-i
     loop-less
     loop-again
     no-matching-vp-context-requires

@@ -1,4 +1,4 @@
-use Rattle.file.proofs.VerdictLaws.{refused, verdict-start}
+use Rattle.validation.proofs.VerdictLaws.{refused, verdict-start}
 use Rattle.sheet.proofs.Readable.{start-says, started-bounds}
 use Rattle.answers.specs.Verdict.{verdictRefusal}
 use Rattle.rules.specs.Verdict.{platformsRefusal, initializationsRefusal, directivesRefusal, headersRefusal}

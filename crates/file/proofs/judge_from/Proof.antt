@@ -1,4 +1,4 @@
-use Rattle.file.proofs.VerdictLaws.{refused, verdict-parts, verdict-none}
+use Rattle.validation.proofs.VerdictLaws.{refused, verdict-parts, verdict-none}
 use Rattle.sheet.proofs.Readable.{sheet-says}
 use Rattle.answers.specs.Verdict.{verdictRefusal}
 use Rattle.rules.specs.Verdict.{platformsRefusal, initializationsRefusal, directivesRefusal, headersRefusal}
@@ -22,17 +22,20 @@ use Rattle.file.proofs.judge_from.Lts as lts
 use Rattle.file.proofs.accepted.Reads as accepted-reads
 use Rattle.file.proofs.keep_contexts.Reads as keep-contexts-reads
 use Rattle.file.proofs.refused.Reads as refused-reads
-use Rattle.file.proofs.validate_from.Reads as validate-from-reads
+use Rattle.validation.proofs.validate_from.Reads as validate-from-reads
 use Rattle.igvm_defs.proofs.Refusal.is_refusal.Reads as is-refusal-reads
 use Rattle.keep.proofs.keep_regions.Reads as keep-regions-reads
 
 -- nothing is refused
-none : (c : tie.Else1) → isRefusal (verdictRefusal limits (now (c .before .before .before .before .before .before .before .before .before .before .before .before .args .s))) ≡ false
+none : (c : tie.Else1) → isRefusal (verdictRefusal limits (now (c .before .before .before .before .before .before .before .before .before .before .before .before .before .before .args .s))) ≡ false
 none c = rw (← c .before .before .before .validate-from .ensures .told, ← c .before .is-refusal .ensures) (c .if1 .left)
 
 -- src/lib.rt:121:9
+kept-contexts-requires : tie.Need-kept-contexts-requires
+kept-contexts-requires c κs = search needs
+
 validate-from-requires : tie.Need-validate-from-requires
-validate-from-requires c κs = search needs
+validate-from-requires c κs = let p = c .before .before .before .before .before .before .before .before .before .before .pre .0 in (p .0, p .1, p .2, rw (c .kept-contexts .ensures) (p .3))
 
 -- src/lib.rt:123:8
 is-refusal-requires : tie.Need-is-refusal-requires
@@ -57,7 +60,7 @@ keep-contexts-requires c κs = search needs
 keep-regions-requires : tie.Need-keep-regions-requires
 keep-regions-requires c κs =
     let n = none (c .before .before .before .before .before .before .before .before .before .before) in
-    ((sheet-says limits _ .0 (verdict-parts limits _ n .0) .0, c .before .before .before .before .before .before .before .before .before .before .before .before .before .before .before .before .before .before .before .before .before .before .pre .0 .1), c .before .before .before .before .before .before .before .before .before .before .before .before .before .before .before .before .before .before .before .before .before .before .pre .1)
+    ((sheet-says limits _ .0 (verdict-parts limits _ n .0) .0, c .before .before .before .before .before .before .before .before .before .before .before .before .before .before .before .before .before .before .before .before .before .before .before .before .pre .0 .1), c .before .before .before .before .before .before .before .before .before .before .before .before .before .before .before .before .before .before .before .before .before .before .before .before .pre .1)
 
 -- src/lib.rt:133:18
 accepted-requires : tie.Need-accepted-requires
@@ -99,12 +102,13 @@ returns-2 c =
     let p = c .before .before .before .before .before .before .before .before .before .before .before .before .before .before .before .before .before .before .before .before .before .before .before .before .before .before .before .before .before .validate-from .ensures in
     let k = c .before .before .before .before .before .before .before .before .before .before .before .before .before .before .before .keep-regions .ensures in
     let m = p .holds (rw (p .told) n) in
-    (c .accepted .ensures ∙ rw (c .before .before .before .before .before .before .before .before .before .before .before .before .before .before .before .before .before .before .before .before .before .before .before .before .before .before .before .before .before .before .before .before .before .before .before .before .before .before .pre .0 .1) (sym (verdict-none limits _ e h)), λ f. record { regions = k .0; rows = k .1; masks = rw (c .before .before .before .before .before .before .before .before .before .before .before .before .before .before .before .before .before .before .before .before .before .before .before .keep-contexts .ensures) m })
+    (c .accepted .ensures ∙ rw (c .before .before .before .before .before .before .before .before .before .before .before .before .before .before .before .before .before .before .before .before .before .before .before .before .before .before .before .before .before .before .before .before .before .before .before .before .before .before .before .before .pre .0 .1) (sym (verdict-none limits _ e h)), λ f. record { regions = k .0; rows = k .1; masks = rw (c .before .before .before .before .before .before .before .before .before .before .before .before .before .before .before .before .before .before .before .before .before .before .before .keep-contexts .ensures) m })
 
 pub judge-from-spec : {M : Type 1} → statement M
 judge-from-spec =
     tie.close
     (tie.spec
+    kept-contexts-requires
     validate-from-requires
     is-refusal-requires
     refused-requires

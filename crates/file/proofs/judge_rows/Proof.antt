@@ -1,5 +1,5 @@
 use lib.ListN.{length}
-use Rattle.file.proofs.VerdictLaws.{sheet-none, verdict-none}
+use Rattle.validation.proofs.VerdictLaws.{sheet-none, verdict-none}
 use Rattle.headers.proofs.HeaderLaws.{sheet-counts}
 use Rattle.sheet.specs.Head.{rowCount, revisionOf}
 use Rattle.igvm_defs.specs.Revision.{isX64, archOf}
@@ -141,7 +141,7 @@ judge-from-requires : tie.Need-judge-from-requires
 judge-from-requires c κs =
     let st = c .before .before .before .before .before .before .before .before .before .before .before .before .before .before .before .before .before .before .before .before .before .before .before .before .before .before .before .before .before .before .before .before .before .before .before .before .before .before .before .before .before .before .before .before .before .before .before .before .before .pre in
     let n = st .1 .0 in
-    ((st .0 .0, st .0 .1, c .before .before .before .before .before .before .before .before .before .before .before .before .before .before .before .before .before .before .before .before .before .before .before .before .before .before .accept .ensures .0), (omega (arith, n), omega (arith, n), omega (arith, n), omega (arith, n), omega (arith, n), omega (arith, n), omega (arith, n)))
+    ((st .0 .0, st .0 .1, c .before .before .before .before .before .before .before .before .before .before .before .before .before .before .before .before .before .before .before .before .before .before .before .before .before .before .accept .ensures .0, c .before .before .before .before .before .before .before .before .before .before .before .before .before .before .before .before .before .before .before .before .before .before .before .before .before .before .accept .ensures .2), (omega (arith, n), omega (arith, n), omega (arith, n), omega (arith, n), omega (arith, n), omega (arith, n), omega (arith, n)))
 
 -- src/lib.rt:139:1
 same-length-8 : tie.Need-same-length-8

@@ -1,4 +1,4 @@
-use Rattle.file.proofs.VerdictLaws.{refused, verdict-start}
+use Rattle.validation.proofs.VerdictLaws.{refused, verdict-start}
 use Rattle.sheet.proofs.Readable.{start-says}
 use borrow.Author.Tests.{leb-true}
 use Rattle.answers.specs.Verdict.{verdictRefusal}

@@ -1,3 +1,0 @@
-pub mod AreaLaws
-pub mod StateLaws
-pub mod OrderLaws

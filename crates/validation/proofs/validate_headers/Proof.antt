@@ -1,0 +1,109 @@
+use Rattle.validation.proofs.VerdictLaws.{headers-platforms, headers-initializations, headers-directives}
+use Rattle.sheet.proofs.Readable.{sheet-says}
+use Rattle.answers.specs.Verdict.{verdictRefusal}
+use Rattle.rules.specs.Verdict.{platformsRefusal, initializationsRefusal, directivesRefusal, headersRefusal}
+use Rattle.headers.specs.Headers.{sheetHeaders}
+use Rattle.sheet.specs.Read.{Readable, sheetRefusal, rowsRefusal}
+use Rattle.sheet.specs.Head.{limits, headOf, startFault, pageSizeFault}
+use Rattle.sheet.specs.declared.SheetHead.{SheetHead}
+use Rattle.igvm_defs.proofs.RefusalLaws.{row-refusal}
+use Rattle.igvm_defs.specs.Refusals.{isFault, isRefusal, inRow}
+use Rattle.rows.proofs.Bools.{and-parts, not-both}
+use denote.Ref.{now}
+use borrow.Author.Tests.{not-true}
+use native.Mathlib.Omega.{arith}
+use mathlib.Core.Bool.{true, false, true≢false, false≢true}
+use mathlib.Core.Path.{_≡_, refl, sym, ap, _∙_}
+use borrow.Author.Needs.{needs}
+use Rattle.validation.proofs.validate_headers.Statement.{statement}
+use Rattle.validation.proofs.validate_headers.Tie as tie
+use Rattle.validation.proofs.validate_headers.Reads as reads
+use Rattle.validation.proofs.validate_headers.Lts as lts
+use Rattle.directive_pass.proofs.validate_directive_headers.Reads as validate-directive-headers-reads
+use Rattle.validation.proofs.no_contexts.Reads as no-contexts-reads
+use Rattle.igvm_defs.proofs.Refusal.is_refusal.Reads as is-refusal-reads
+use Rattle.passes.proofs.validate_initialization_headers.Reads as validate-initialization-headers-reads
+use Rattle.passes.proofs.validate_platform_headers.Reads as validate-platform-headers-reads
+
+readable : (c : tie.After-shared-slice-known) → Readable limits (now (c .before .args .s))
+readable c = sheet-says limits (now (c .before .args .s)) .0 (c .before .pre .0) .0
+
+platforms-passed : (c : tie.Else1) → isRefusal (platformsRefusal (sheetHeaders (now (c .before .before .before .before .before .args .s)))) ≡ false
+platforms-passed c = rw (← c .before .before .before .validate-platform-headers .ensures .told, ← c .before .is-refusal .ensures) (c .if1 .left)
+
+initializations-passed : (c : tie.Else2) → isRefusal (initializationsRefusal (sheetHeaders (now (c .before .before .before .before .before .before .before .before .before .args .s)))) ≡ false
+initializations-passed c = rw (← c .before .before .before .validate-initialization-headers .ensures .told, ← c .before .is-refusal2 .ensures) (c .if2 .left)
+
+-- src/lib.rt:59:9
+validate-platform-headers-requires : tie.Need-validate-platform-headers-requires
+validate-platform-headers-requires c κs = (readable c, c .before .pre .1)
+
+-- src/lib.rt:61:8
+is-refusal-requires : tie.Need-is-refusal-requires
+is-refusal-requires c κs = search needs
+
+-- src/lib.rt:62:9
+no-contexts-requires : tie.Need-no-contexts-requires
+no-contexts-requires c κs = search needs
+
+-- src/lib.rt:62:9
+returns : tie.Need-returns
+returns c =
+    let told = c .before .before .before .before .validate-platform-headers .ensures .told in
+    let t : isRefusal (c .before .before .before .before .validate-platform-headers .result .refusal) ≡ true = sym (c .before .before .is-refusal .ensures) ∙ c .before .if1 .taken in
+    let e : isRefusal (platformsRefusal (sheetHeaders (now (c .before .before .before .before .before .before .args .s)))) ≡ true = rw (← told) t in
+    record { told = rw (c .no-contexts .ensures, told) (sym (headers-platforms _ e)); holds = λ f. not-both (rw (c .no-contexts .ensures) at f) t }
+
+-- src/lib.rt:64:9
+validate-initialization-headers-requires : tie.Need-validate-initialization-headers-requires
+validate-initialization-headers-requires c κs =
+    let holds = c .before .before .before .validate-platform-headers .ensures .holds (rw (← c .before .is-refusal .ensures) (c .if1 .left)) in
+    (readable (c .before .before .before .before), c .before .before .before .before .before .pre .1, holds)
+
+-- src/lib.rt:66:8
+is-refusal-requires-2 : tie.Need-is-refusal-requires-2
+is-refusal-requires-2 c κs = search needs
+
+-- src/lib.rt:67:9
+no-contexts-requires-2 : tie.Need-no-contexts-requires-2
+no-contexts-requires-2 c κs = search needs
+
+-- src/lib.rt:67:9
+returns-2 : tie.Need-returns-2
+returns-2 c =
+    let told = c .before .before .before .before .validate-initialization-headers .ensures .told in
+    let t : isRefusal (c .before .before .before .before .validate-initialization-headers .result .refusal) ≡ true = sym (c .before .before .is-refusal2 .ensures) ∙ c .before .if2 .taken in
+    let e : isRefusal (initializationsRefusal (sheetHeaders (now (c .before .before .before .before .before .before .before .before .before .before .args .s)))) ≡ true = rw (← told) t in
+    record { told = rw (c .no-contexts2 .ensures, told) (sym (headers-initializations _ (platforms-passed (c .before .before .before .before .before)) e)); holds = λ f. not-both (rw (c .no-contexts2 .ensures) at f) t }
+
+start-of-requires : tie.Need-start-of-requires
+start-of-requires c κs = let p = c .before .before .before .before .before .before .before .before .before .pre in (readable (c .before .before .before .before .before .before .before .before), p .1, p .2, p .3)
+
+validate-directive-headers-requires : tie.Need-validate-directive-headers-requires
+validate-directive-headers-requires c κs =
+    let e = c .before .before in
+    let holds = e .before .before .before .validate-initialization-headers .ensures .holds (rw (← e .before .is-refusal2 .ensures) (e .if2 .left)) in
+    let from = c .before .start-of .ensures in
+    ((readable (e .before .before .before .before .before .before .before .before), e .before .before .before .before .before .before .before .before .before .pre .1, holds), (from .0, from .1))
+
+returns-3 : tie.Need-returns-3
+returns-3 c =
+    let d = c .validate-directive-headers .ensures in
+    let e = c .before .before .before in
+    record { told = d .told ∙ sym (headers-directives _ (platforms-passed (e .before .before .before .before)) (initializations-passed e)); holds = d .holds }
+
+pub validate-headers-spec : {M : Type 1} → statement M
+validate-headers-spec =
+    tie.close
+    (tie.spec
+    validate-platform-headers-requires
+    is-refusal-requires
+    no-contexts-requires
+    returns
+    validate-initialization-headers-requires
+    is-refusal-requires-2
+    no-contexts-requires-2
+    returns-2
+    start-of-requires
+    validate-directive-headers-requires
+    returns-3)
