@@ -68,8 +68,8 @@ pub record AreaRow (arch : Arch) (earlier : Rows IgvmDirectiveHeader) (kind : �
   pub area : badArea earlier (directiveOf kind b) ≡ false
   pub known : HoldsAreas few areas states (stateAfter earlier (directiveOf kind b))
 
--- any row, after these initialization rows and these directive rows
-pub record NamedRow (arch : Arch) (is : Rows IgvmInitializationHeader) (earlier : Rows IgvmDirectiveHeader) (kind : ℕ) (b contexts next few areas states : List ℕ) : Type 0 where
+-- such a row, also by the page tables of these initialization rows; it is no context
+pub record NamedRow (arch : Arch) (is : Rows IgvmInitializationHeader) (earlier : Rows IgvmDirectiveHeader) (kind : ℕ) (b few areas states : List ℕ) : Type 0 where
   pub row : AreaRow arch earlier kind b few areas states
   pub table : insideTable is (directiveOf kind b) ≡ false
-  pub context : ContextsNext contexts (directiveOf kind b) next
+  pub other : (level bits : ℕ) → isContext level bits (directiveOf kind b) ≡ false

@@ -1,13 +1,12 @@
 // The directive rows of a sheet, from its bytes, as far as they are in order: one pass, one arm for each kind. A row that is not in order, or of which this
 // pass can't tell, is where it ends; what is wrong with such a row is for the pass over directive headers to say.
 ghost use mathlib.Core.Path.{_≡_};
-ghost use mathlib.Core.Bool.{true, false, not, _&&_, _||_};
+ghost use mathlib.Core.Bool.{true, false, not, _&&_};
 ghost use mathlib.Core.List.{[], _∷_};
 ghost use Prim.Native.Nat.{ℕ, _+_, _-_, _≤_};
 ghost use lib.Dec.{eqb};
 ghost use lib.ListN.{length, getD};
-ghost use Rattle.le.specs.Le.{byteAt, leAt};
-ghost use Rattle.rows.specs.Rows.{Rows, before};
+ghost use Rattle.rows.specs.Rows.{Rows};
 ghost use Rattle.igvm_defs.specs.declared.Arch.{Arch};
 ghost use Rattle.igvm_defs.specs.Revision.{isX64};
 ghost use Rattle.masks.specs.Masks.{shares};
@@ -21,7 +20,7 @@ ghost use Rattle.directive_header.specs.declared.IgvmDirectiveHeader.{IgvmDirec
 ghost use Rattle.headers.specs.Headers.{sheetHeaders};
 ghost use Rattle.area_table.specs.AreaTable.{HoldsAreas};
 ghost use Rattle.directive_rows.specs.Sound.{Sound, VbsContext, PlainRow, AreaRow, NamedRow, HoldsTables, stateOf};
-ghost use Rattle.directive_rows.specs.Accepted.{firstDirective, DirectivesAccepted, Onward, PlainAccepted, NamedAccepted, stateBefore, anyLacks};
+ghost use Rattle.directive_rows.specs.Accepted.{firstDirective, DirectivesAccepted, Onward, PlainPassed, AreasPassed, PlainAccepted, NamedAccepted, stateBefore, anyLacks};
 use sheet::Cursor;
 
 // ---- a row's body
@@ -127,7 +126,7 @@ fn plain_row(kind: u32, b: &[u8], x64: bool, contexts: &mut [u32; 3]) -> bool
         51 => error_range(b),
         52 => 4 <= b.len(),
         53 => 4 <= b.len(),
-        _ => false,
+        _ => false, // 33 to 43 and 50 name an area
     }
 }
 
@@ -141,6 +140,7 @@ fn parameter_area_row(
     states: &mut [u8; area_table::SLOTS],
 ) -> bool
     ensures { λ r. ⌜ ((arch : Arch) (earlier : Rows IgvmDirectiveHeader) → HoldsAreas (now (few .entry)) (now (areas .entry)) (now (states .entry)) (stateOf earlier) → r ≡ true → AreaRow arch earlier 33 (now (b .entry)) (now (few .exit)) (now (areas .exit)) (now (states .exit))) ⌝ }
+    ensures { λ r. ⌜ ((known : ℕ → ℕ) → r ≡ false → HoldsAreas (now (few .entry)) (now (areas .entry)) (now (states .entry)) known → HoldsAreas (now (few .exit)) (now (areas .exit)) (now (states .exit)) known) ⌝ }
 {
     if !parameter_area(b) {
         return false;
@@ -175,7 +175,8 @@ fn insert_row(
     areas: &mut [u32; area_table::SLOTS],
     states: &mut [u8; area_table::SLOTS],
 ) -> bool
-    ensures { λ r. ⌜ ((arch : Arch) (earlier : Rows IgvmDirectiveHeader) → HoldsAreas (now (few .entry)) (now (areas .entry)) (now (states .entry)) (stateOf earlier) → r ≡ true → AreaRow arch earlier 50 (now (b .entry)) (now (few .exit)) (now (areas .exit)) (now (states .exit))) × (r ≡ true → length (now (b .entry)) ≡ 16) ⌝ }
+    ensures { λ r. ⌜ ((arch : Arch) (earlier : Rows IgvmDirectiveHeader) → HoldsAreas (now (few .entry)) (now (areas .entry)) (now (states .entry)) (stateOf earlier) → r ≡ true → AreaRow arch earlier 50 (now (b .entry)) (now (few .exit)) (now (areas .exit)) (now (states .exit))) ⌝ }
+    ensures { λ r. ⌜ ((known : ℕ → ℕ) → r ≡ false → HoldsAreas (now (few .entry)) (now (areas .entry)) (now (states .entry)) known → HoldsAreas (now (few .exit)) (now (areas .exit)) (now (states .exit)) known) ⌝ }
 {
     if b.len() != 16 {
         return false;
@@ -230,6 +231,7 @@ fn parameter_insert_row<'a>(
 ) -> bool
     requires { ⌜ (n ≤ length (now masks)) × (n ≤ length (now gpas)) × (n ≤ length (now sizes)) × (n ≤ length (now tables)) ⌝ }
     ensures { λ r. ⌜ ((arch : Arch) (is : Rows IgvmInitializationHeader) (earlier : Rows IgvmDirectiveHeader) → HoldsTables (now (masks .entry)) (now (gpas .entry)) (now (sizes .entry)) (now (tables .entry)) n is → HoldsAreas (now (few .entry)) (now (areas .entry)) (now (states .entry)) (stateOf earlier) → r ≡ true → AreaRow arch earlier 50 (now (b .entry)) (now (few .exit)) (now (areas .exit)) (now (states .exit)) × (insideTable is (directiveOf 50 (now (b .entry))) ≡ false)) ⌝ }
+    ensures { λ r. ⌜ ((known : ℕ → ℕ) → r ≡ false → HoldsAreas (now (few .entry)) (now (areas .entry)) (now (states .entry)) known → HoldsAreas (now (few .exit)) (now (areas .exit)) (now (states .exit)) known) ⌝ }
 {
     if !clear_of_tables(b, masks, gpas, sizes, tables, n) {
         return false;
@@ -237,30 +239,28 @@ fn parameter_insert_row<'a>(
     insert_row(b, few, areas, states)
 }
 
-// A row of any kind: its length, its codes and its tests. The first n regions of the arrays tell the page tables.
-fn named_row<'a>(
+// A row that names an area: its length, its codes and its tests. The first n regions of the arrays tell the page tables.
+fn area_row<'a>(
     kind: u32,
     b: &'a [u8],
-    x64: bool,
     masks: &'a [u32],
     gpas: &'a [u64],
     sizes: &'a [u64],
     tables: &'a [bool],
     n: usize,
-    contexts: &mut [u32; 3],
     few: &mut [u8; area_table::FEW],
     areas: &mut [u32; area_table::SLOTS],
     states: &mut [u8; area_table::SLOTS],
 ) -> bool
-    requires { ⌜ (length (now contexts) ≡ 3) × ((n ≤ length (now masks)) × (n ≤ length (now gpas)) × (n ≤ length (now sizes)) × (n ≤ length (now tables))) ⌝ }
-    ensures { λ r. ⌜ ((arch : Arch) (is : Rows IgvmInitializationHeader) (earlier : Rows IgvmDirectiveHeader) → x64 ≡ isX64 arch → HoldsTables (now (masks .entry)) (now (gpas .entry)) (now (sizes .entry)) (now (tables .entry)) n is → HoldsAreas (now (few .entry)) (now (areas .entry)) (now (states .entry)) (stateOf earlier) → r ≡ true → NamedRow arch is earlier kind (now (b .entry)) (now (contexts .entry)) (now (contexts .exit)) (now (few .exit)) (now (areas .exit)) (now (states .exit))) ⌝ }
-    ensures { λ r. ⌜ (r ≡ false → now (contexts .exit) ≡ now (contexts .entry)) × (length (now (contexts .exit)) ≡ 3) ⌝ }
+    requires { ⌜ (n ≤ length (now masks)) × (n ≤ length (now gpas)) × (n ≤ length (now sizes)) × (n ≤ length (now tables)) ⌝ }
+    ensures { λ r. ⌜ ((arch : Arch) (is : Rows IgvmInitializationHeader) (earlier : Rows IgvmDirectiveHeader) → HoldsTables (now (masks .entry)) (now (gpas .entry)) (now (sizes .entry)) (now (tables .entry)) n is → HoldsAreas (now (few .entry)) (now (areas .entry)) (now (states .entry)) (stateOf earlier) → r ≡ true → NamedRow arch is earlier kind (now (b .entry)) (now (few .exit)) (now (areas .exit)) (now (states .exit))) ⌝ }
+    ensures { λ r. ⌜ ((known : ℕ → ℕ) → r ≡ false → HoldsAreas (now (few .entry)) (now (areas .entry)) (now (states .entry)) known → HoldsAreas (now (few .exit)) (now (areas .exit)) (now (states .exit)) known) ⌝ }
 {
     match kind {
         33 => parameter_area_row(b, few, areas, states),
         34..=43 => parameter_row(b, few, areas, states),
         50 => parameter_insert_row(b, masks, gpas, sizes, tables, n, few, areas, states),
-        _ => plain_row(kind, b, x64, contexts),
+        _ => false,
     }
 }
 
@@ -307,8 +307,8 @@ fn past_like(s: &[u8], kind: u32, from: Cursor, end: usize) -> Cursor
 // Past the rows in order that name no area.
 fn past_plain(s: &[u8], from: Cursor, end: usize, x64: bool, contexts: &mut [u32; 3]) -> Cursor
     requires { ⌜ (bodiesAt (headOf (now s)) ≤ length (now s)) × (end ≡ rowCount (headOf (now s))) × (x64 ≡ isX64 (sheetHeaders (now s) .arch)) ⌝ }
-    requires { ⌜ PlainAccepted (now s) from (now contexts) ⌝ }
-    ensures { λ r. ⌜ PlainAccepted (now (s .entry)) r (now (contexts .exit)) ⌝ }
+    requires { ⌜ DirectivesAccepted (now s) from (now contexts) × (length (now contexts) ≡ 3) ⌝ }
+    ensures { λ r. ⌜ PlainPassed (now (s .entry)) from r (now (contexts .exit)) ⌝ }
 {
     let mut c = from;
     while c.row < end {
@@ -366,8 +366,8 @@ fn past_parameters(
     c
 }
 
-// Pages and parameters come one behind the other: loops of their own take them.
-fn past_alike(
+// Parameters come one behind the other: a loop of their own takes them.
+fn past_uses(
     s: &[u8],
     kind: u32,
     from: Cursor,
@@ -383,10 +383,61 @@ fn past_alike(
     if directives::is_parameter(kind) {
         return past_parameters(s, from, end, few, areas, states);
     }
-    past_like(s, kind, from, end)
+    from
 }
 
-// Past the rows in order, with a table of areas.
+// Past the rows in order that name an area.
+fn past_area_rows<'a>(
+    s: &'a [u8],
+    from: Cursor,
+    end: usize,
+    masks: &'a [u32],
+    gpas: &'a [u64],
+    sizes: &'a [u64],
+    tables: &'a [bool],
+    n: usize,
+    few: &mut [u8; area_table::FEW],
+    areas: &mut [u32; area_table::SLOTS],
+    states: &mut [u8; area_table::SLOTS],
+) -> Cursor
+    requires { ⌜ (bodiesAt (headOf (now s)) ≤ length (now s)) × ReadTo (now s) from × (firstDirective (now s) ≤ from .row) × (end ≡ rowCount (headOf (now s))) ⌝ }
+    requires { ⌜ ((n ≤ length (now masks)) × (n ≤ length (now gpas)) × (n ≤ length (now sizes)) × (n ≤ length (now tables))) × HoldsTables (now masks) (now gpas) (now sizes) (now tables) n (sheetHeaders (now s) .initializations) ⌝ }
+    requires { ⌜ HoldsAreas (now few) (now areas) (now states) (stateBefore (now s) (from .row)) ⌝ }
+    ensures { λ r. ⌜ AreasPassed (now (s .entry)) from r (now (few .exit)) (now (areas .exit)) (now (states .exit)) ⌝ }
+{
+    let mut c = from;
+    while c.row < end {
+        let k = c.row;
+        let at = c.at;
+        let kind = sheet::kind_at(s, k);
+        let len = sheet::length_at(s, k);
+        if s.len() - at < len {
+            return c;
+        }
+        if !area_row(
+            kind,
+            sheet::part(s, at, len),
+            masks,
+            gpas,
+            sizes,
+            tables,
+            n,
+            few,
+            areas,
+            states,
+        ) {
+            return c;
+        }
+        let next = Cursor {
+            row: k + 1,
+            at: at + len,
+        };
+        c = past_uses(s, kind, next, end, few, areas, states);
+    }
+    c
+}
+
+// Past the rows in order, with a table of areas: those that name an area and those that name none, by turns.
 fn past_named<'a>(
     s: &'a [u8],
     from: Cursor,
@@ -410,33 +461,11 @@ fn past_named<'a>(
     let mut c = from;
     while c.row < end {
         let k = c.row;
-        let at = c.at;
-        let kind = sheet::kind_at(s, k);
-        let len = sheet::length_at(s, k);
-        if s.len() - at < len {
+        let d = past_area_rows(s, c, end, masks, gpas, sizes, tables, n, few, areas, states);
+        c = past_plain(s, d, end, x64, contexts);
+        if c.row == k {
             return c;
         }
-        if !named_row(
-            kind,
-            sheet::part(s, at, len),
-            x64,
-            masks,
-            gpas,
-            sizes,
-            tables,
-            n,
-            contexts,
-            few,
-            areas,
-            states,
-        ) {
-            return c;
-        }
-        let next = Cursor {
-            row: k + 1,
-            at: at + len,
-        };
-        c = past_alike(s, kind, next, end, few, areas, states);
     }
     c
 }

@@ -21,7 +21,7 @@ use Rattle.le.proofs.u64_at.Reads as u64-at-reads
 
 -- src/lib.rt:180:9
 returns : tie.Need-returns
-returns c = (λ arch earlier h e. absurd (false≢true e), λ e. absurd (false≢true e))
+returns c = (λ arch earlier h e. absurd (false≢true e), λ known e h. h)
 
 -- src/lib.rt:182:9
 u32-at-requires : tie.Need-u32-at-requires
@@ -37,7 +37,7 @@ on-page-requires c κs = search needs
 
 -- src/lib.rt:184:9
 returns-2 : tie.Need-returns-2
-returns-2 c = (λ arch earlier h e. absurd (false≢true e), λ e. absurd (false≢true e))
+returns-2 c = (λ arch earlier h e. absurd (false≢true e), λ known e h. h)
 
 -- src/lib.rt:186:8
 state-of-requires : tie.Need-state-of-requires
@@ -45,7 +45,7 @@ state-of-requires c κs = search needs
 
 -- src/lib.rt:187:9
 returns-3 : tie.Need-returns-3
-returns-3 c = (λ arch earlier h e. absurd (false≢true e), λ e. absurd (false≢true e))
+returns-3 c = (λ arch earlier h e. absurd (false≢true e), λ known e h. h)
 
 -- src/lib.rt:189:5
 put-requires : tie.Need-put-requires
@@ -59,7 +59,7 @@ returns-4 c =
     let state = sym (c .before .before .before .before .before .state-of .ensures) ∙ c .before .before .before .before .if3 .left in (
       λ arch earlier h e.
           insert-area earlier _ (rw u at (table-says _ _ _ earlier _ 1 h state (omega arith))) arch _ _ _ (c .before .before .before .before .before .before .before .before .before .before .before .before .before .if1 .left) page (rw u at (c .put .ensures (stateOf earlier) h)),
-      λ e. c .before .before .before .before .before .before .before .before .before .before .before .before .before .if1 .left,
+      λ known e h. absurd (false≢true (sym e)),
     )
 
 pub insert-row-spec : {M : Type 1} → statement M

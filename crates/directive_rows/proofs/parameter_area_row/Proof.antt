@@ -23,7 +23,7 @@ parameter-area-requires c κs = search needs
 
 -- src/lib.rt:145:9
 returns : tie.Need-returns
-returns c = λ arch earlier h e. absurd (false≢true e)
+returns c = (λ arch earlier h e. absurd (false≢true e), λ known e h. h)
 
 -- src/lib.rt:147:9
 u32-at-requires : tie.Need-u32-at-requires
@@ -35,7 +35,7 @@ state-of-requires c κs = search needs
 
 -- src/lib.rt:149:9
 returns-2 : tie.Need-returns-2
-returns-2 c = λ arch earlier h e. absurd (false≢true e)
+returns-2 c = (λ arch earlier h e. absurd (false≢true e), λ known e h. h)
 
 -- src/lib.rt:151:5
 put-requires : tie.Need-put-requires
@@ -47,9 +47,11 @@ returns-3 c =
     let u = c .before .before .before .before .before .before .before .before .before .u32-at .ensures in
     let state = sym (c .before .before .before .before .before .state-of .ensures) ∙ c .before .before .before .before .if2 .left in
     let sound = c .before .before .before .before .before .before .before .before .before .before .before .parameter-area .ensures .0 in
-    let t = not-false _ (c .before .before .before .before .before .before .before .before .before .before .if1 .left) in
-    λ arch earlier h e.
-    area-row earlier _ (rw u at (table-says _ _ _ earlier _ 0 h state (omega arith))) arch _ _ _ (sound arch t) (rw u at (c .put .ensures (stateOf earlier) h))
+    let t = not-false _ (c .before .before .before .before .before .before .before .before .before .before .if1 .left) in (
+      λ arch earlier h e.
+          area-row earlier _ (rw u at (table-says _ _ _ earlier _ 0 h state (omega arith))) arch _ _ _ (sound arch t) (rw u at (c .put .ensures (stateOf earlier) h)),
+      λ known e h. absurd (false≢true (sym e)),
+    )
 
 pub parameter-area-row-spec : {M : Type 1} → statement M
 parameter-area-row-spec =

@@ -1,8 +1,5 @@
-use denote.Ref.{now}
-use borrow.Author.Tests.{not-false, not-true, eqb-true}
-use native.Mathlib.Omega.{arith}
-use mathlib.Core.Bool.{false≢true, or-false}
-use mathlib.Core.Path.{_≡_, refl, sym, ap, _∙_}
+use borrow.Author.Tests.{not-false}
+use mathlib.Core.Bool.{false≢true}
 use borrow.Author.Needs.{needs}
 use Rattle.directive_rows.proofs.parameter_insert_row.Statement.{statement}
 use Rattle.directive_rows.proofs.parameter_insert_row.Tie as tie
@@ -17,7 +14,7 @@ clear-of-tables-requires c κs = search needs
 
 -- src/lib.rt:234:9
 returns : tie.Need-returns
-returns c = λ arch is earlier h k e. absurd (false≢true e)
+returns c = (λ arch is earlier h k e. absurd (false≢true e), λ known e h. h)
 
 -- src/lib.rt:236:5
 insert-row-requires : tie.Need-insert-row-requires
@@ -25,7 +22,7 @@ insert-row-requires c κs = search needs
 
 -- src/lib.rt:219:1
 returns-2 : tie.Need-returns-2
-returns-2 c = λ arch is earlier h k e. (c .insert-row .ensures .0 arch earlier k e, c .before .before .before .before .before .clear-of-tables .ensures is h (not-false _ (c .before .before .before .before .if1 .left)))
+returns-2 c = (λ arch is earlier h k e. (c .insert-row .ensures .0 arch earlier k e, c .before .before .before .before .before .clear-of-tables .ensures is h (not-false _ (c .before .before .before .before .if1 .left))), c .insert-row .ensures .1)
 
 pub parameter-insert-row-spec : {M : Type 1} → statement M
 parameter-insert-row-spec =
