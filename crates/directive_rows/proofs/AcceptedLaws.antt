@@ -3,23 +3,22 @@
 use Prim.Native.Nat.{ℕ, _+_, _-_, _≤_, _<_}
 use native.Mathlib.Omega.{arith}
 use mathlib.Core.Path.{_≡_, refl, sym, ap, _∙_}
-use mathlib.Core.Bool.{Bool, true, false, _&&_, _||_, or-false, true≢false}
+use mathlib.Core.Bool.{Bool, true, false, _&&_, _||_, or-false}
 use mathlib.Core.Option.{none}
 use mathlib.Core.List.{List, []}
 use lib.Dec.{eqb}
-use lib.ListN.{length, getD, take, drop}
-use borrow.Author.Tests.{eqb-true, eqb-false}
+use lib.ListN.{length, take, drop}
+use borrow.Author.Tests.{eqb-false}
 use Rattle.rows.specs.Rows.{Rows, any, before}
 use Rattle.rows.proofs.Bools.{or-false-parts}
 use Rattle.rows.proofs.BelowLaws.{any-more}
 use Rattle.igvm_defs.specs.declared.Arch.{Arch}
 use Rattle.igvm_defs.specs.Kinds.{kindOf, directiveList}
 use Rattle.igvm_defs.specs.Refusals.{isFault}
-use Rattle.masks.specs.Masks.{shares}
 use Rattle.sheet.specs.declared.Cursor.{Cursor}
 use Rattle.sheet.specs.Head.{headOf, rowCount}
 use Rattle.sheet.specs.Table.{rowKind, rowLength, bodyOf, offsetOf}
-use Rattle.sheet.specs.Walk.{ReadTo, cursorAt}
+use Rattle.sheet.specs.Walk.{ReadTo}
 use Rattle.sheet.proofs.Readable.{RowOk, directive-list, body-length}
 use Rattle.sheet.proofs.ReadLaws.{read-more}
 use Rattle.headers.specs.Headers.{sheetHeaders}
@@ -31,10 +30,10 @@ use Rattle.directive_header.proofs.DirectiveLaws.{kind-directive, area-directiv
 use Rattle.rules.specs.Directives.{allocates, inserts, badArea, insideTable}
 use Rattle.rules.specs.Verdict.{directiveFaults}
 use Rattle.rules.proofs.Acceptance.{directive-says, inside-table}
-use Rattle.directives.specs.Record.{HoldsContexts, namesArea}
+use Rattle.directives.specs.Record.{namesArea}
 use Rattle.directives.proofs.DirectiveRecordLaws.{holds-next, names-no-area}
-use Rattle.directive_rows.specs.Sound.{Sound, ContextsNext, PlainRow, stateOf, stateAfter}
-use Rattle.directive_rows.proofs.SoundLaws.{page-plain}
+use Rattle.directive_row.specs.Sound.{Sound, ContextsNext, PlainRow, stateOf, stateAfter}
+use Rattle.directive_row.proofs.SoundLaws.{page-plain}
 use Rattle.directive_rows.specs.Accepted.{firstDirective, DirectivesAccepted, stateBefore, Onward, PlainPassed}
 
 -- ---- a row that names no area

@@ -5,19 +5,14 @@ use native.Mathlib.Omega.{arith}
 use mathlib.Core.Path.{_≡_, refl, sym, _∙_}
 use mathlib.Core.Bool.{true, false, or-false}
 use mathlib.Core.List.{List, [], _∷_}
-use lib.Dec.{leb}
 use lib.ListN.{length, getD, take, drop, replicate}
-use borrow.Author.Tests.{le-leb}
 use Rattle.rows.specs.Below.{anyBelow}
 use Rattle.rows.specs.Rows.{Rows, before}
-use Rattle.rows.proofs.Bools.{and-both}
-use Rattle.igvm_defs.specs.declared.Arch.{Arch}
 use Rattle.masks.specs.Masks.{shares}
-use Rattle.initialization_header.specs.declared.IgvmInitializationHeader.{IgvmInitializationHeader}
 use Rattle.directive_header.specs.declared.IgvmDirectiveHeader.{IgvmDirectiveHeader}
 use Rattle.directive_header.specs.Directives.{directiveOf}
 use Rattle.directive_header.specs.Fields.{isParameter}
-use Rattle.rules.specs.Directives.{insideTable, isContext}
+use Rattle.rules.specs.Directives.{isContext}
 use Rattle.area_table.specs.AreaTable.{HoldsAreas}
 use Rattle.area_table.proofs.AreaTableLaws.{holds-same, holds-none}
 use Rattle.sheet.specs.declared.Cursor.{Cursor}
@@ -27,31 +22,13 @@ use Rattle.sheet.specs.Walk.{ReadTo}
 use Rattle.directives.proofs.DirectiveRecordLaws.{holds-no-contexts}
 use Rattle.headers.specs.Headers.{sheetHeaders}
 use Rattle.directive_rows.specs.Accepted.{firstDirective, DirectivesAccepted, NamedAccepted, PlainAccepted, PlainPassed, AreasPassed, Onward, stateBefore}
-use Rattle.directive_rows.specs.Sound.{AreaRow, NamedRow, ContextsNext, stateOf}
+use Rattle.directive_row.specs.Sound.{AreaRow, NamedRow, ContextsNext, stateOf}
 use Rattle.directive_rows.proofs.AcceptedLaws.{part-body, read-row, accepted-more, state-more}
-use Rattle.directive_rows.proofs.AreaRowLaws.{parameter-table, parameter-context, parameter-state}
+use Rattle.directive_row.proofs.AreaRowLaws.{parameter-table, parameter-context, parameter-state}
 
 -- a header that is no context leaves the masks as they are
 pub contexts-stay : (contexts : List ℕ) (h : IgvmDirectiveHeader) → ((level bits : ℕ) → isContext level bits h ≡ false) → ContextsNext contexts h contexts
 contexts-stay contexts h other level bits = rw (other level bits) (sym (or-false (shares (getD contexts level 0) bits)))
-
-module _ (arch : Arch) (is : Rows IgvmInitializationHeader) (earlier : Rows IgvmDirectiveHeader) where
-  pub area-named : (kind : ℕ) (b few areas states : List ℕ) → kind ≡ 33 → AreaRow arch earlier 33 b few areas states → NamedRow arch is earlier kind b few areas states
-  unfolding directiveOf
-  area-named kind b few areas states e row = rw e (record { row = row; table = refl; other = λ level bits. refl })
-
-  pub insert-named : (kind : ℕ) (b few areas states : List ℕ) → kind ≡ 50 → AreaRow arch earlier 50 b few areas states → insideTable is (directiveOf 50 b) ≡ false
-      → NamedRow arch is earlier kind b few areas states
-  unfolding directiveOf
-  insert-named kind b few areas states e row table = rw e (record { row = row; table = table; other = λ level bits. refl })
-
-  pub parameter-named : (kind : ℕ) → isParameter kind ≡ true → (b few areas states : List ℕ) → AreaRow arch earlier kind b few areas states
-      → NamedRow arch is earlier kind b few areas states
-  parameter-named kind p b few areas states row = record { row = row; table = parameter-table kind p b is; other = parameter-context kind p b }
-
--- the kinds of the arm
-pub is-parameter : (kind : ℕ) → 34 ≤ kind → kind ≤ 43 → isParameter kind ≡ true
-is-parameter kind l h = and-both (leb 34 kind) (leb kind 43) (le-leb 34 kind l) (le-leb kind 43 h)
 
 -- ---- the rows
 

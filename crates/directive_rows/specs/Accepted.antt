@@ -16,7 +16,7 @@ use Rattle.rules.specs.Verdict.{directiveFaults}
 use Rattle.directives.specs.Record.{HoldsContexts}
 use Rattle.masks.specs.Masks.{shares}
 use Rattle.area_table.specs.AreaTable.{HoldsAreas}
-use Rattle.directive_rows.specs.Sound.{stateOf}
+use Rattle.directive_row.specs.Sound.{stateOf}
 
 -- how many rows stand before the directive rows
 abbrev pub firstDirective : List ℕ → ℕ

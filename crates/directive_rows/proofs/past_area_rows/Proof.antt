@@ -9,7 +9,7 @@ use Rattle.directive_rows.proofs.past_area_rows.Statement.{statement}
 use Rattle.directive_rows.proofs.past_area_rows.Tie as tie
 use Rattle.directive_rows.proofs.past_area_rows.Reads as reads
 use Rattle.directive_rows.proofs.past_area_rows.Lts as lts
-use Rattle.directive_rows.proofs.area_row.Reads as area-row-reads
+use Rattle.directive_row.proofs.area_row.Reads as area-row-reads
 use Rattle.directive_rows.proofs.past_uses.Reads as past-uses-reads
 use Rattle.sheet.proofs.kind_at.Reads as kind-at-reads
 use Rattle.sheet.proofs.length_at.Reads as length-at-reads

@@ -3,16 +3,14 @@ use Rattle.directive_rows.specs.Accepted.{PlainPassed}
 use Prim.Native.Nat.{_-_, _+_, _*_, _≤_}
 use denote.Ref.{now}
 use lib.ListN.{length}
-use mathlib.Core.Path.{_≡_, sym, _∙_}
 use native.Mathlib.Omega.{arith}
 use borrow.Author.Tests.{not-false, not-true}
-use borrow.Author.Needs.{needs}
 use Rattle.directive_rows.proofs.past_plain.Statement.{statement}
 use Rattle.directive_rows.proofs.past_plain.Tie as tie
 use Rattle.directive_rows.proofs.past_plain.Reads as reads
 use Rattle.directive_rows.proofs.past_plain.Lts as lts
 use Rattle.directive_rows.proofs.past_like.Reads as past-like-reads
-use Rattle.directive_rows.proofs.plain_row.Reads as plain-row-reads
+use Rattle.directive_row.proofs.plain_row.Reads as plain-row-reads
 use Rattle.sheet.proofs.kind_at.Reads as kind-at-reads
 use Rattle.sheet.proofs.length_at.Reads as length-at-reads
 use Rattle.sheet.proofs.part.Reads as part-reads

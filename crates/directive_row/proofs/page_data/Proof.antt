@@ -1,16 +1,12 @@
-use mathlib.Core.Path.{_≡_, refl, sym, _∙_}
 use mathlib.Core.Bool.{false≢true}
 use native.Mathlib.Omega.{arith}
-use borrow.Author.Tests.{eqb-true, leb-true}
-use denote.Ref.{now}
-use lib.ListN.{length}
-use Prim.Native.Nat.{_≤_, _-_}
-use Rattle.directive_rows.proofs.SoundLaws.{page-sound}
+use borrow.Author.Tests.{eqb-true}
+use Rattle.directive_row.proofs.SoundLaws.{page-sound}
 use borrow.Author.Needs.{needs}
-use Rattle.directive_rows.proofs.page_data.Statement.{statement}
-use Rattle.directive_rows.proofs.page_data.Tie as tie
-use Rattle.directive_rows.proofs.page_data.Reads as reads
-use Rattle.directive_rows.proofs.page_data.Lts as lts
+use Rattle.directive_row.proofs.page_data.Statement.{statement}
+use Rattle.directive_row.proofs.page_data.Tie as tie
+use Rattle.directive_row.proofs.page_data.Reads as reads
+use Rattle.directive_row.proofs.page_data.Lts as lts
 use Rattle.le.proofs.u16_at.Reads as u16-at-reads
 use Rattle.le.proofs.u64_at.Reads as u64-at-reads
 

@@ -1,23 +1,20 @@
 -- What the tests of a row's body give: the row is sound by itself, kind by kind.
 -- Assumes nothing.
-use Prim.Native.Nat.{ℕ, _+_, _-_, _/_, _%_, _≤_, _<_}
+use Prim.Native.Nat.{ℕ, _+_, _-_, _/_, _%_, _≤_}
 use native.Mathlib.Omega.{arith}
 use mathlib.Core.Path.{_≡_, refl, sym, ap, _∙_}
-use mathlib.Core.Bool.{Bool, true, false, cond, not, _&&_, _||_, or-false, false≢true}
+use mathlib.Core.Bool.{Bool, true, false, not, or-false, false≢true}
 use mathlib.Core.List.{List}
 use lib.Bits.{bitOr}
-use lib.Dec.{eqb, leb, ltb}
+use lib.Dec.{leb}
 use lib.ListN.{length, getD, set}
-use borrow.Author.Tests.{leb-true, le-leb, le-ltb, eq-eqb, eqb-true}
+use borrow.Author.Tests.{le-leb, le-ltb}
 use Rattle.le.specs.Le.{byteAt, leAt}
-use Rattle.rows.specs.Rows.{Rows}
-use Rattle.rows.proofs.Bools.{and-parts}
 use Rattle.igvm_defs.specs.declared.Arch.{Arch}
 use Rattle.igvm_defs.specs.declared.Arch.the-variants.{X64, AArch64}
 use Rattle.igvm_defs.specs.Kinds.{kindOf, spans, lengthOk}
 use Rattle.igvm_defs.specs.Revision.{isX64, isAArch64}
 use Rattle.igvm_defs.specs.Refusals.{isFault}
-use Rattle.igvm_defs.specs.Vtls.{vtlNumber, vtlOf}
 use Rattle.igvm_defs.proofs.VtlLaws.{vtl-number}
 use Rattle.addresses.specs.Addresses.{isMultiple, onPage}
 use Rattle.masks.specs.Masks.{shares}
@@ -27,7 +24,7 @@ use Rattle.rules.specs.Accepted.{ownDirectiveFault}
 use Rattle.rules.specs.Directives.{wrongArch, isContext}
 use Rattle.directives.specs.Record.{namesArea}
 use Rattle.directives.proofs.DirectiveRecordLaws.{context-set}
-use Rattle.directive_rows.specs.Sound.{Sound, ContextsNext, VbsContext, PlainRow}
+use Rattle.directive_row.specs.Sound.{Sound, VbsContext, PlainRow}
 
 module _ (arch : Arch) (b : List ℕ) where
   pub page-sound : 18 ≤ length b → length b ≤ 4114 → leAt 8 b 0 % 4096 + leAt 2 b 16 / 4 ≡ 0 → Sound arch 32 b

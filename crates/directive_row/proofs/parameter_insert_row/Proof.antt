@@ -1,12 +1,12 @@
 use borrow.Author.Tests.{not-false}
 use mathlib.Core.Bool.{false≢true}
 use borrow.Author.Needs.{needs}
-use Rattle.directive_rows.proofs.parameter_insert_row.Statement.{statement}
-use Rattle.directive_rows.proofs.parameter_insert_row.Tie as tie
-use Rattle.directive_rows.proofs.parameter_insert_row.Reads as reads
-use Rattle.directive_rows.proofs.parameter_insert_row.Lts as lts
-use Rattle.directive_rows.proofs.clear_of_tables.Reads as clear-of-tables-reads
-use Rattle.directive_rows.proofs.insert_row.Reads as insert-row-reads
+use Rattle.directive_row.proofs.parameter_insert_row.Statement.{statement}
+use Rattle.directive_row.proofs.parameter_insert_row.Tie as tie
+use Rattle.directive_row.proofs.parameter_insert_row.Reads as reads
+use Rattle.directive_row.proofs.parameter_insert_row.Lts as lts
+use Rattle.directive_row.proofs.clear_of_tables.Reads as clear-of-tables-reads
+use Rattle.directive_row.proofs.insert_row.Reads as insert-row-reads
 
 -- src/lib.rt:233:9
 clear-of-tables-requires : tie.Need-clear-of-tables-requires

@@ -1,17 +1,16 @@
 -- Rows that name an area: what is known of it tells the area rule, and what is known afterwards.
 -- Assumes nothing.
-use Prim.Native.Nat.{ℕ, _+_, _≤_, _<_}
+use Prim.Native.Nat.{ℕ, _≤_, _<_}
 use native.Mathlib.Omega.{arith}
 use mathlib.Core.Path.{_≡_, refl, sym, ap, _∙_}
-use mathlib.Core.Bool.{Bool, true, false, cond, not, _&&_, _||_, or-false}
+use mathlib.Core.Bool.{Bool, true, false, cond, not, _||_, or-false}
 use mathlib.Core.List.{List}
-use mathlib.Core.Logic.{_≢_}
 use lib.Dec.{eqb, leb}
-use lib.ListN.{length, getD}
-use borrow.Author.Tests.{leb-true, eqb-true}
+use lib.ListN.{length}
+use borrow.Author.Tests.{leb-true, le-leb, eqb-true}
 use Rattle.le.specs.Le.{leAt}
 use Rattle.rows.specs.Rows.{Rows, any}
-use Rattle.rows.proofs.Bools.{and-parts}
+use Rattle.rows.proofs.Bools.{and-parts, and-both}
 use Rattle.igvm_defs.specs.declared.Arch.{Arch}
 use Rattle.igvm_defs.specs.declared.Kind.{Kind}
 use Rattle.igvm_defs.specs.Kinds.{kindOf, spans, lengthOk, directiveList}
@@ -28,7 +27,7 @@ use Rattle.rules.specs.Accepted.{ownDirectiveFault}
 use Rattle.rules.specs.Directives.{wrongArch, allocates, inserts, isAllocated, badArea, insideTable, isContext}
 use Rattle.area_table.specs.AreaTable.{HoldsAreas, stateIn}
 use Rattle.area_table.proofs.AreaTableLaws.{holds-same}
-use Rattle.directive_rows.specs.Sound.{Sound, AreaRow, areaState, stateOf, stateAfter}
+use Rattle.directive_row.specs.Sound.{Sound, AreaRow, NamedRow, areaState, stateOf, stateAfter}
 
 or-true : (b : Bool) → (b || true) ≡ true
 or-true true = refl
@@ -172,3 +171,23 @@ module _ (k : ℕ) (e : isParameter k ≡ true) (b : List ℕ) where
 
   pub parameter-context : (level bits : ℕ) → isContext level bits (directiveOf k b) ≡ false
   parameter-context level bits = parameter k e .context level bits b
+
+-- ---- what each arm gives
+
+module _ (arch : Arch) (is : Rows IgvmInitializationHeader) (earlier : Rows IgvmDirectiveHeader) where
+  pub area-named : (kind : ℕ) (b few areas states : List ℕ) → kind ≡ 33 → AreaRow arch earlier 33 b few areas states → NamedRow arch is earlier kind b few areas states
+  unfolding directiveOf
+  area-named kind b few areas states e row = rw e (record { row = row; table = refl; other = λ level bits. refl })
+
+  pub insert-named : (kind : ℕ) (b few areas states : List ℕ) → kind ≡ 50 → AreaRow arch earlier 50 b few areas states → insideTable is (directiveOf 50 b) ≡ false
+      → NamedRow arch is earlier kind b few areas states
+  unfolding directiveOf
+  insert-named kind b few areas states e row table = rw e (record { row = row; table = table; other = λ level bits. refl })
+
+  pub parameter-named : (kind : ℕ) → isParameter kind ≡ true → (b few areas states : List ℕ) → AreaRow arch earlier kind b few areas states
+      → NamedRow arch is earlier kind b few areas states
+  parameter-named kind p b few areas states row = record { row = row; table = parameter-table kind p b is; other = parameter-context kind p b }
+
+-- the kinds of the arm
+pub is-parameter : (kind : ℕ) → 34 ≤ kind → kind ≤ 43 → isParameter kind ≡ true
+is-parameter kind l h = and-both (leb 34 kind) (leb kind 43) (le-leb 34 kind l) (le-leb kind 43 h)

@@ -1,17 +1,13 @@
-use Rattle.directive_rows.proofs.AreaRowLaws.{table-says, parameter-area}
-use Rattle.directive_rows.specs.Sound.{stateOf}
-use Rattle.le.specs.Le.{leAt}
-use denote.Ref.{now}
-use lib.ListN.{length}
-use borrow.Author.Tests.{not-false, not-true, eqb-true}
+use Rattle.directive_row.proofs.AreaRowLaws.{table-says, parameter-area}
+use borrow.Author.Tests.{eqb-true}
 use native.Mathlib.Omega.{arith}
 use mathlib.Core.Bool.{false≢true}
-use mathlib.Core.Path.{_≡_, refl, sym, ap, _∙_}
+use mathlib.Core.Path.{sym, _∙_}
 use borrow.Author.Needs.{needs}
-use Rattle.directive_rows.proofs.parameter_row.Statement.{statement}
-use Rattle.directive_rows.proofs.parameter_row.Tie as tie
-use Rattle.directive_rows.proofs.parameter_row.Reads as reads
-use Rattle.directive_rows.proofs.parameter_row.Lts as lts
+use Rattle.directive_row.proofs.parameter_row.Statement.{statement}
+use Rattle.directive_row.proofs.parameter_row.Tie as tie
+use Rattle.directive_row.proofs.parameter_row.Reads as reads
+use Rattle.directive_row.proofs.parameter_row.Lts as lts
 use Rattle.area_table.proofs.state_of.Reads as state-of-reads
 use Rattle.le.proofs.u32_at.Reads as u32-at-reads
 

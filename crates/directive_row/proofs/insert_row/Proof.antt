@@ -1,18 +1,15 @@
-use Rattle.directive_rows.proofs.AreaRowLaws.{table-says, insert-area}
+use Rattle.directive_row.proofs.AreaRowLaws.{table-says, insert-area}
 use Rattle.addresses.specs.Addresses.{onPage}
-use Rattle.directive_rows.specs.Sound.{stateOf}
-use Rattle.le.specs.Le.{leAt}
-use denote.Ref.{now}
-use lib.ListN.{length}
-use borrow.Author.Tests.{not-false, not-true, eqb-true}
+use Rattle.directive_row.specs.Sound.{stateOf}
+use borrow.Author.Tests.{not-false}
 use native.Mathlib.Omega.{arith}
 use mathlib.Core.Bool.{false≢true}
-use mathlib.Core.Path.{_≡_, refl, sym, ap, _∙_}
+use mathlib.Core.Path.{sym, ap, _∙_}
 use borrow.Author.Needs.{needs}
-use Rattle.directive_rows.proofs.insert_row.Statement.{statement}
-use Rattle.directive_rows.proofs.insert_row.Tie as tie
-use Rattle.directive_rows.proofs.insert_row.Reads as reads
-use Rattle.directive_rows.proofs.insert_row.Lts as lts
+use Rattle.directive_row.proofs.insert_row.Statement.{statement}
+use Rattle.directive_row.proofs.insert_row.Tie as tie
+use Rattle.directive_row.proofs.insert_row.Reads as reads
+use Rattle.directive_row.proofs.insert_row.Lts as lts
 use Rattle.addresses.proofs.on_page.Reads as on-page-reads
 use Rattle.area_table.proofs.put.Reads as put-reads
 use Rattle.area_table.proofs.state_of.Reads as state-of-reads

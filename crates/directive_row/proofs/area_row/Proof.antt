@@ -1,15 +1,15 @@
 use Prim.Native.Nat.{_≤_}
-use Rattle.directive_rows.proofs.NamedLaws.{area-named, insert-named, parameter-named, is-parameter}
+use Rattle.directive_row.proofs.AreaRowLaws.{area-named, insert-named, parameter-named, is-parameter}
 use native.Mathlib.Omega.{arith}
 use mathlib.Core.Bool.{false≢true}
 use borrow.Author.Needs.{needs}
-use Rattle.directive_rows.proofs.area_row.Statement.{statement}
-use Rattle.directive_rows.proofs.area_row.Tie as tie
-use Rattle.directive_rows.proofs.area_row.Reads as reads
-use Rattle.directive_rows.proofs.area_row.Lts as lts
-use Rattle.directive_rows.proofs.parameter_area_row.Reads as parameter-area-row-reads
-use Rattle.directive_rows.proofs.parameter_insert_row.Reads as parameter-insert-row-reads
-use Rattle.directive_rows.proofs.parameter_row.Reads as parameter-row-reads
+use Rattle.directive_row.proofs.area_row.Statement.{statement}
+use Rattle.directive_row.proofs.area_row.Tie as tie
+use Rattle.directive_row.proofs.area_row.Reads as reads
+use Rattle.directive_row.proofs.area_row.Lts as lts
+use Rattle.directive_row.proofs.parameter_area_row.Reads as parameter-area-row-reads
+use Rattle.directive_row.proofs.parameter_insert_row.Reads as parameter-insert-row-reads
+use Rattle.directive_row.proofs.parameter_row.Reads as parameter-row-reads
 
 -- src/lib.rt:259:15
 parameter-area-row-requires : tie.Need-parameter-area-row-requires

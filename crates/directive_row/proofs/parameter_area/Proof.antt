@@ -1,17 +1,16 @@
-use mathlib.Core.Path.{_≡_, refl, sym, _∙_}
 use mathlib.Core.Bool.{false≢true}
 use native.Mathlib.Omega.{arith}
-use borrow.Author.Tests.{eqb-true, leb-true}
+use borrow.Author.Tests.{leb-true}
 use Rattle.rows.proofs.Bools.{and-parts}
 use denote.Ref.{now}
 use lib.ListN.{length}
-use Prim.Native.Nat.{_≤_, _-_}
-use Rattle.directive_rows.proofs.SoundLaws.{area-sound}
+use Prim.Native.Nat.{_≤_}
+use Rattle.directive_row.proofs.SoundLaws.{area-sound}
 use borrow.Author.Needs.{needs}
-use Rattle.directive_rows.proofs.parameter_area.Statement.{statement}
-use Rattle.directive_rows.proofs.parameter_area.Tie as tie
-use Rattle.directive_rows.proofs.parameter_area.Reads as reads
-use Rattle.directive_rows.proofs.parameter_area.Lts as lts
+use Rattle.directive_row.proofs.parameter_area.Statement.{statement}
+use Rattle.directive_row.proofs.parameter_area.Tie as tie
+use Rattle.directive_row.proofs.parameter_area.Reads as reads
+use Rattle.directive_row.proofs.parameter_area.Lts as lts
 use Rattle.addresses.proofs.on_page.Reads as on-page-reads
 use Rattle.le.proofs.u64_at.Reads as u64-at-reads
 

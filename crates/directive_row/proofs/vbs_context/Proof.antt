@@ -1,15 +1,15 @@
-use Rattle.directive_rows.proofs.SoundLaws.{vbs-more}
+use Rattle.directive_row.proofs.SoundLaws.{vbs-more}
 use lib.ListN.{length-set}
 use borrow.Author.Tests.{not-false}
 use native.Mathlib.Omega.{arith}
 use mathlib.Core.Bool.{false≢true, true≢false}
-use mathlib.Core.Path.{_≡_, refl, sym, _∙_}
+use mathlib.Core.Path.{refl}
 use borrow.Author.Needs.{needs}
-use Rattle.directive_rows.proofs.vbs_context.Statement.{statement}
-use Rattle.directive_rows.proofs.vbs_context.Tie as tie
-use Rattle.directive_rows.proofs.vbs_context.Reads as reads
-use Rattle.directive_rows.proofs.vbs_context.Lts as lts
-use Rattle.directive_rows.proofs.wide.Reads as wide-reads
+use Rattle.directive_row.proofs.vbs_context.Statement.{statement}
+use Rattle.directive_row.proofs.vbs_context.Tie as tie
+use Rattle.directive_row.proofs.vbs_context.Reads as reads
+use Rattle.directive_row.proofs.vbs_context.Lts as lts
+use Rattle.directive_row.proofs.wide.Reads as wide-reads
 use Rattle.le.proofs.u32_at.Reads as u32-at-reads
 
 -- src/lib.rt:96:9

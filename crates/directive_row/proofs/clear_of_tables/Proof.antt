@@ -1,17 +1,12 @@
-use Rattle.directive_rows.proofs.AreaRowLaws.{insert-table}
-use Rattle.directive_rows.specs.Sound.{stateOf}
-use Rattle.le.specs.Le.{leAt}
-use denote.Ref.{now}
-use lib.ListN.{length}
-use borrow.Author.Tests.{not-false, not-true, eqb-true}
-use native.Mathlib.Omega.{arith}
+use Rattle.directive_row.proofs.AreaRowLaws.{insert-table}
+use borrow.Author.Tests.{not-true}
 use mathlib.Core.Bool.{false≢true}
-use mathlib.Core.Path.{_≡_, refl, sym, ap, _∙_}
+use mathlib.Core.Path.{_∙_}
 use borrow.Author.Needs.{needs}
-use Rattle.directive_rows.proofs.clear_of_tables.Statement.{statement}
-use Rattle.directive_rows.proofs.clear_of_tables.Tie as tie
-use Rattle.directive_rows.proofs.clear_of_tables.Reads as reads
-use Rattle.directive_rows.proofs.clear_of_tables.Lts as lts
+use Rattle.directive_row.proofs.clear_of_tables.Statement.{statement}
+use Rattle.directive_row.proofs.clear_of_tables.Tie as tie
+use Rattle.directive_row.proofs.clear_of_tables.Reads as reads
+use Rattle.directive_row.proofs.clear_of_tables.Lts as lts
 use Rattle.initializations.proofs.any_table_holds.Reads as any-table-holds-reads
 use Rattle.le.proofs.u32_at.Reads as u32-at-reads
 use Rattle.le.proofs.u64_at.Reads as u64-at-reads
