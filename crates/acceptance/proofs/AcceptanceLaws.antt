@@ -36,7 +36,7 @@ use Rattle.directive_pass.proofs.DirectivePass.{directives-end}
 use Rattle.platform_rows.specs.Accepted.{PlatformsAccepted, HoldsCca}
 use Rattle.initialization_rows.specs.Accepted.{InitializationsAccepted}
 use Rattle.directive_rows.specs.Accepted.{firstDirective, DirectivesAccepted, anyLacks}
-use Rattle.directive_rows.specs.Sound.{HoldsTables}
+use Rattle.directive_row.specs.Sound.{HoldsTables}
 use Rattle.acceptance.specs.Kept.{Kept, RowsAccepted, ListsAccepted}
 
 -- the table lies in the sheet

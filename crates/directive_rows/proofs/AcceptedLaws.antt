@@ -3,23 +3,22 @@
 use Prim.Native.Nat.{ℕ, _+_, _-_, _≤_, _<_}
 use native.Mathlib.Omega.{arith}
 use mathlib.Core.Path.{_≡_, refl, sym, ap, _∙_}
-use mathlib.Core.Bool.{Bool, true, false, _&&_, _||_, or-false, true≢false}
+use mathlib.Core.Bool.{Bool, true, false, _&&_, _||_, or-false}
 use mathlib.Core.Option.{none}
 use mathlib.Core.List.{List, []}
 use lib.Dec.{eqb}
-use lib.ListN.{length, getD, take, drop}
-use borrow.Author.Tests.{eqb-true, eqb-false}
+use lib.ListN.{length, take, drop}
+use borrow.Author.Tests.{eqb-false}
 use Rattle.rows.specs.Rows.{Rows, any, before}
 use Rattle.rows.proofs.Bools.{or-false-parts}
 use Rattle.rows.proofs.BelowLaws.{any-more}
 use Rattle.igvm_defs.specs.declared.Arch.{Arch}
 use Rattle.igvm_defs.specs.Kinds.{kindOf, directiveList}
 use Rattle.igvm_defs.specs.Refusals.{isFault}
-use Rattle.masks.specs.Masks.{shares}
 use Rattle.sheet.specs.declared.Cursor.{Cursor}
 use Rattle.sheet.specs.Head.{headOf, rowCount}
 use Rattle.sheet.specs.Table.{rowKind, rowLength, bodyOf, offsetOf}
-use Rattle.sheet.specs.Walk.{ReadTo, cursorAt}
+use Rattle.sheet.specs.Walk.{ReadTo}
 use Rattle.sheet.proofs.Readable.{RowOk, directive-list, body-length}
 use Rattle.sheet.proofs.ReadLaws.{read-more}
 use Rattle.headers.specs.Headers.{sheetHeaders}
@@ -31,11 +30,11 @@ use Rattle.directive_header.proofs.DirectiveLaws.{kind-directive, area-directiv
 use Rattle.rules.specs.Directives.{allocates, inserts, badArea, insideTable}
 use Rattle.rules.specs.Verdict.{directiveFaults}
 use Rattle.rules.proofs.Acceptance.{directive-says, inside-table}
-use Rattle.directives.specs.Record.{HoldsContexts, namesArea}
+use Rattle.directives.specs.Record.{namesArea}
 use Rattle.directives.proofs.DirectiveRecordLaws.{holds-next, names-no-area}
-use Rattle.directive_rows.specs.Sound.{Sound, ContextsNext, PlainRow, stateOf, stateAfter}
-use Rattle.directive_rows.proofs.SoundLaws.{page-plain}
-use Rattle.directive_rows.specs.Accepted.{firstDirective, DirectivesAccepted, stateBefore, Onward, PlainAccepted}
+use Rattle.directive_row.specs.Sound.{Sound, ContextsNext, PlainRow, stateOf, stateAfter}
+use Rattle.directive_row.proofs.SoundLaws.{page-plain}
+use Rattle.directive_rows.specs.Accepted.{firstDirective, DirectivesAccepted, stateBefore, Onward, PlainPassed}
 
 -- ---- a row that names no area
 
@@ -149,10 +148,12 @@ module _ (s : List ℕ) (c : Cursor) (r : ReadTo s c) (room : c .at + rowLength 
       state-more s (c .row) d area
       ∙ unnamed-state (rowKind s (c .row)) (bodyOf s (c .row)) (p .sound .list) (p .unnamed) (before (c .row - firstDirective s) (sheetHeaders s .directives)) area
 
-  pub plain-more : (contexts next : List ℕ) → PlainAccepted s c contexts → PlainRow (sheetHeaders s .arch) (rowKind s (c .row)) (bodyOf s (c .row)) contexts next
-      → length next ≡ 3 → PlainAccepted s (following s c) next
-  plain-more contexts next a p n =
+  pub plain-more : (from : Cursor) (contexts next : List ℕ) → PlainPassed s from c contexts
+      → PlainRow (sheetHeaders s .arch) (rowKind s (c .row)) (bodyOf s (c .row)) contexts next → length next ≡ 3 → PlainPassed s from (following s c) next
+  plain-more from contexts next a p n =
+      let low = a .low in
       record {
+        low = omega arith;
         rows = accepted-plain contexts next p (a .rows);
         areas = λ area. state-plain (a .rows .low) p area ∙ a .areas area;
         masks = n;
@@ -175,8 +176,14 @@ onward-more s c d o room l p =
       areas = λ area. state-plain s d (o .read) room l first (p []) area ∙ o .areas area;
     }
 
-pub plain-onward : (s : List ℕ) (c d : Cursor) (contexts : List ℕ) → PlainAccepted s c contexts → Onward s c d → PlainAccepted s d contexts
-plain-onward s c d contexts a o = record { rows = o .accepted contexts (a .rows); areas = λ area. o .areas area ∙ a .areas area; masks = a .masks }
+pub plain-none : (s : List ℕ) (c : Cursor) (contexts : List ℕ) → DirectivesAccepted s c contexts → length contexts ≡ 3 → PlainPassed s c c contexts
+plain-none s c contexts a n = record { low = omega arith; rows = a; areas = λ area. refl; masks = n }
+
+pub plain-onward : (s : List ℕ) (from c d : Cursor) (contexts : List ℕ) → PlainPassed s from c contexts → Onward s c d → PlainPassed s from d contexts
+plain-onward s from c d contexts a o =
+    let low = a .low in
+    let more = o .low in
+    record { low = omega arith; rows = o .accepted contexts (a .rows); areas = λ area. o .areas area ∙ a .areas area; masks = a .masks }
 
 -- a page in order
 pub onward-page : (s : List ℕ) (c d : Cursor) → Onward s c d → (len : ℕ) → len ≡ rowLength s (d .row) → d .at + len ≤ length s → d .row < rowCount (headOf s)
@@ -188,9 +195,9 @@ onward-page s c d o len e room l page body part sound =
     (onward-more s c d o (rw e at room) l (λ contexts. page-plain (sheetHeaders s .arch) (rowKind s (d .row)) (bodyOf s (d .row)) contexts page (rw q at (sound (sheetHeaders s .arch)))))
 
 -- a row in order that names no area
-pub plain-next : (s : List ℕ) (c : Cursor) (contexts next : List ℕ) → PlainAccepted s c contexts → (len : ℕ) → len ≡ rowLength s (c .row) → c .at + len ≤ length s
+pub plain-next : (s : List ℕ) (from c : Cursor) (contexts next : List ℕ) → PlainPassed s from c contexts → (len : ℕ) → len ≡ rowLength s (c .row) → c .at + len ≤ length s
     → c .row < rowCount (headOf s) → (kind : ℕ) → kind ≡ rowKind s (c .row) → (body : List ℕ) → body ≡ take len (drop (c .at) s)
-    → PlainRow (sheetHeaders s .arch) kind body contexts next → length next ≡ 3 → PlainAccepted s (record { row = c .row + 1; at = c .at + len }) next
-plain-next s c contexts next a len e room l kind k body part row n =
+    → PlainRow (sheetHeaders s .arch) kind body contexts next → length next ≡ 3 → PlainPassed s from (record { row = c .row + 1; at = c .at + len }) next
+plain-next s from c contexts next a len e room l kind k body part row n =
     let q : body ≡ bodyOf s (c .row) = part ∙ part-body s c (a .rows .read) len e in
-    rw e (plain-more s c (a .rows .read) (rw e at room) l contexts next a (rw (k, q) at row) n)
+    rw e (plain-more s c (a .rows .read) (rw e at room) l from contexts next a (rw (k, q) at row) n)

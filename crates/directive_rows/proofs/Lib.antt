@@ -1,4 +1,2 @@
-pub mod SoundLaws
 pub mod AcceptedLaws
-pub mod AreaRowLaws
 pub mod NamedLaws

@@ -16,7 +16,7 @@ use Rattle.rules.specs.Verdict.{directiveFaults}
 use Rattle.directives.specs.Record.{HoldsContexts}
 use Rattle.masks.specs.Masks.{shares}
 use Rattle.area_table.specs.AreaTable.{HoldsAreas}
-use Rattle.directive_rows.specs.Sound.{stateOf}
+use Rattle.directive_row.specs.Sound.{stateOf}
 
 -- how many rows stand before the directive rows
 abbrev pub firstDirective : List ℕ → ℕ
@@ -40,6 +40,21 @@ pub record Onward (s : List ℕ) (c d : Cursor) : Type 0 where
   pub read : ReadTo s d
   pub accepted : (contexts : List ℕ) → DirectivesAccepted s c contexts → DirectivesAccepted s d contexts
   pub areas : (area : ℕ) → stateBefore s (d .row) area ≡ stateBefore s (c .row) area
+
+-- from one cursor to a later one, past rows that name no area: what is known of areas is as it was, and the masks have the contexts between
+pub record PlainPassed (s : List ℕ) (c d : Cursor) (next : List ℕ) : Type 0 where
+  pub low : c .row ≤ d .row
+  pub rows : DirectivesAccepted s d next
+  pub areas : (area : ℕ) → stateBefore s (d .row) area ≡ stateBefore s (c .row) area
+  pub masks : length next ≡ 3
+
+-- from one cursor to a later one, past rows that name an area: the masks are as they were, and the table of areas has what the rows so far tell
+pub record AreasPassed (s : List ℕ) (c d : Cursor) (few areas states : List ℕ) : Type 0 where
+  pub low : c .row ≤ d .row
+  pub first : firstDirective s ≤ d .row
+  pub read : ReadTo s d
+  pub accepted : (contexts : List ℕ) → DirectivesAccepted s c contexts → DirectivesAccepted s d contexts
+  pub known : HoldsAreas few areas states (stateBefore s (d .row))
 
 -- no directive row before the cursor's has a fault, and none names an area
 pub record PlainAccepted (s : List ℕ) (c : Cursor) (contexts : List ℕ) : Type 0 where

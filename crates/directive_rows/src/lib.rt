@@ -1,268 +1,20 @@
-// The directive rows of a sheet, from its bytes, as far as they are in order: one pass, one arm for each kind. A row that is not in order, or of which this
-// pass can't tell, is where it ends; what is wrong with such a row is for the pass over directive headers to say.
+// The directive rows of a sheet, from its bytes, as far as they are in order: one pass. A row that is not in order, or of which this pass can't tell, is
+// where it ends; what is wrong with such a row is for the pass over directive headers to say.
 ghost use mathlib.Core.Path.{_≡_};
-ghost use mathlib.Core.Bool.{true, false, not, _&&_, _||_};
+ghost use mathlib.Core.Bool.{false, not, _&&_};
 ghost use mathlib.Core.List.{[], _∷_};
-ghost use Prim.Native.Nat.{ℕ, _+_, _-_, _≤_};
+ghost use Prim.Native.Nat.{_≤_};
 ghost use lib.Dec.{eqb};
 ghost use lib.ListN.{length, getD};
-ghost use Rattle.le.specs.Le.{byteAt, leAt};
-ghost use Rattle.rows.specs.Rows.{Rows, before};
-ghost use Rattle.igvm_defs.specs.declared.Arch.{Arch};
 ghost use Rattle.igvm_defs.specs.Revision.{isX64};
 ghost use Rattle.masks.specs.Masks.{shares};
 ghost use Rattle.sheet.specs.Head.{headOf, rowCount, bodiesAt};
 ghost use Rattle.sheet.specs.Walk.{ReadTo};
-ghost use Rattle.initialization_header.specs.declared.IgvmInitializationHeader.{IgvmInitializationHeader};
-ghost use Rattle.directive_header.specs.Directives.{directiveOf};
-ghost use Rattle.directive_header.specs.Fields.{isParameter};
-ghost use Rattle.rules.specs.Directives.{insideTable};
-ghost use Rattle.directive_header.specs.declared.IgvmDirectiveHeader.{IgvmDirectiveHeader};
 ghost use Rattle.headers.specs.Headers.{sheetHeaders};
 ghost use Rattle.area_table.specs.AreaTable.{HoldsAreas};
-ghost use Rattle.directive_rows.specs.Sound.{Sound, VbsContext, PlainRow, AreaRow, NamedRow, HoldsTables, stateOf};
-ghost use Rattle.directive_rows.specs.Accepted.{firstDirective, DirectivesAccepted, Onward, PlainAccepted, NamedAccepted, stateBefore, anyLacks};
+ghost use Rattle.directive_row.specs.Sound.{HoldsTables};
+ghost use Rattle.directive_rows.specs.Accepted.{firstDirective, DirectivesAccepted, Onward, PlainPassed, AreasPassed, PlainAccepted, NamedAccepted, stateBefore, anyLacks};
 use sheet::Cursor;
-
-// ---- a row's body
-
-// 32: an address on a page, a type up to 3, at most 4,096 bytes of data.
-fn page_data(b: &[u8]) -> bool
-    ensures { λ r. ⌜ ((arch : Arch) → r ≡ true → Sound arch 32 (now (b .entry))) ⌝ }
-{
-    let n = b.len();
-    if n < 18 {
-        return false;
-    }
-    if 4114 < n {
-        return false;
-    }
-    le::u64_at(b, 0) % 4096 + ((le::u16_at(b, 16) / 4) as u64) == 0
-}
-
-// 33: its bytes on a page, and no more initial data than that.
-fn parameter_area(b: &[u8]) -> bool
-    ensures { λ r. ⌜ ((arch : Arch) → r ≡ true → Sound arch 33 (now (b .entry))) × (r ≡ true → 12 ≤ length (now (b .entry))) ⌝ }
-{
-    let n = b.len();
-    if n < 12 {
-        return false;
-    }
-    let bytes = le::u64_at(b, 0);
-    addresses::on_page(bytes) & ((n - 12) as u64 <= bytes)
-}
-
-// 44: protectable 0 or 1, address and bytes on a page.
-fn required_memory(b: &[u8]) -> bool
-    ensures { λ r. ⌜ ((arch : Arch) → r ≡ true → Sound arch 44 (now (b .entry))) ⌝ }
-{
-    if b.len() != 17 {
-        return false;
-    }
-    (b[16] <= 1)
-        & addresses::on_page(le::u64_at(b, 0))
-        & addresses::on_page(le::u32_at(b, 12) as u64)
-}
-
-// 45: an address on a page.
-fn snp_vp_context(b: &[u8]) -> bool
-    ensures { λ r. ⌜ ((arch : Arch) → r ≡ true → Sound arch 45 (now (b .entry))) ⌝ }
-{
-    if b.len() < 14 {
-        return false;
-    }
-    addresses::on_page(le::u64_at(b, 0))
-}
-
-// 51: an address on a page.
-fn error_range(b: &[u8]) -> bool
-    ensures { λ r. ⌜ ((arch : Arch) → r ≡ true → Sound arch 51 (now (b .entry))) ⌝ }
-{
-    if b.len() != 16 {
-        return false;
-    }
-    addresses::on_page(le::u64_at(b, 0))
-}
-
-fn wide(x: u8) -> usize
-    ensures { λ r. ⌜ r ≡ x ⌝ }
-{
-    x as usize
-}
-
-// 47 and 48, where the kind stands with the architecture: a VTL up to 2, whose mask gets the context's bits.
-fn vbs_context(b: &[u8], stands: bool, contexts: &mut [u32; 3]) -> bool
-    requires { ⌜ length (now contexts) ≡ 3 ⌝ }
-    ensures { λ r. ⌜ (r ≡ true → (stands ≡ true) × VbsContext (now (b .entry)) (now (contexts .entry)) (now (contexts .exit))) ⌝ }
-    ensures { λ r. ⌜ (r ≡ false → now (contexts .exit) ≡ now (contexts .entry)) × (length (now (contexts .exit)) ≡ 3) ⌝ }
-{
-    if !stands {
-        return false;
-    }
-    if b.len() < 5 {
-        return false;
-    }
-    let v = wide(b[4]);
-    if 2 < v {
-        return false;
-    }
-    contexts[v] = contexts[v] | le::u32_at(b, 0);
-    true
-}
-
-// A row that names no area: its length, its codes and its tests.
-fn plain_row(kind: u32, b: &[u8], x64: bool, contexts: &mut [u32; 3]) -> bool
-    requires { ⌜ length (now contexts) ≡ 3 ⌝ }
-    ensures { λ r. ⌜ ((arch : Arch) → x64 ≡ isX64 arch → r ≡ true → PlainRow arch kind (now (b .entry)) (now (contexts .entry)) (now (contexts .exit))) ⌝ }
-    ensures { λ r. ⌜ (r ≡ false → now (contexts .exit) ≡ now (contexts .entry)) × (length (now (contexts .exit)) ≡ 3) ⌝ }
-{
-    match kind {
-        32 => page_data(b),
-        44 => required_memory(b),
-        45 => snp_vp_context(b),
-        46 => x64 & (6 <= b.len()),
-        47 => vbs_context(b, x64, contexts),
-        48 => vbs_context(b, !x64, contexts),
-        49 => !x64 & (6 <= b.len()),
-        51 => error_range(b),
-        52 => 4 <= b.len(),
-        53 => 4 <= b.len(),
-        _ => false,
-    }
-}
-
-// ---- rows that name an area
-
-// 33: an area that no row named.
-fn parameter_area_row(
-    b: &[u8],
-    few: &mut [u8; area_table::FEW],
-    areas: &mut [u32; area_table::SLOTS],
-    states: &mut [u8; area_table::SLOTS],
-) -> bool
-    ensures { λ r. ⌜ ((arch : Arch) (earlier : Rows IgvmDirectiveHeader) → HoldsAreas (now (few .entry)) (now (areas .entry)) (now (states .entry)) (stateOf earlier) → r ≡ true → AreaRow arch earlier 33 (now (b .entry)) (now (few .exit)) (now (areas .exit)) (now (states .exit))) ⌝ }
-{
-    if !parameter_area(b) {
-        return false;
-    }
-    let area = le::u32_at(b, 8);
-    if area_table::state_of(few, areas, states, area) != 0 {
-        return false;
-    }
-    area_table::put(few, areas, states, area, 1);
-    true
-}
-
-// 34 to 43: an area that is allocated.
-fn parameter_row(
-    b: &[u8],
-    few: &[u8; area_table::FEW],
-    areas: &[u32; area_table::SLOTS],
-    states: &[u8; area_table::SLOTS],
-) -> bool
-    ensures { λ r. ⌜ ((arch : Arch) (earlier : Rows IgvmDirectiveHeader) (kind : ℕ) → isParameter kind ≡ true → HoldsAreas (now (few .entry)) (now (areas .entry)) (now (states .entry)) (stateOf earlier) → r ≡ true → AreaRow arch earlier kind (now (b .entry)) (now (few .entry)) (now (areas .entry)) (now (states .entry))) ⌝ }
-{
-    if b.len() != 8 {
-        return false;
-    }
-    area_table::state_of(few, areas, states, le::u32_at(b, 0)) == 1
-}
-
-// 50: an address on a page, an area that is allocated.
-fn insert_row(
-    b: &[u8],
-    few: &mut [u8; area_table::FEW],
-    areas: &mut [u32; area_table::SLOTS],
-    states: &mut [u8; area_table::SLOTS],
-) -> bool
-    ensures { λ r. ⌜ ((arch : Arch) (earlier : Rows IgvmDirectiveHeader) → HoldsAreas (now (few .entry)) (now (areas .entry)) (now (states .entry)) (stateOf earlier) → r ≡ true → AreaRow arch earlier 50 (now (b .entry)) (now (few .exit)) (now (areas .exit)) (now (states .exit))) × (r ≡ true → length (now (b .entry)) ≡ 16) ⌝ }
-{
-    if b.len() != 16 {
-        return false;
-    }
-    let area = le::u32_at(b, 12);
-    if !addresses::on_page(le::u64_at(b, 0)) {
-        return false;
-    }
-    if area_table::state_of(few, areas, states, area) != 1 {
-        return false;
-    }
-    area_table::put(few, areas, states, area, 2);
-    true
-}
-
-// 50: no page table of the first n regions holds the address.
-fn clear_of_tables<'a>(
-    b: &'a [u8],
-    masks: &'a [u32],
-    gpas: &'a [u64],
-    sizes: &'a [u64],
-    tables: &'a [bool],
-    n: usize,
-) -> bool
-    requires { ⌜ (n ≤ length (now masks)) × (n ≤ length (now gpas)) × (n ≤ length (now sizes)) × (n ≤ length (now tables)) ⌝ }
-    ensures { λ r. ⌜ ((is : Rows IgvmInitializationHeader) → HoldsTables (now (masks .entry)) (now (gpas .entry)) (now (sizes .entry)) (now (tables .entry)) n is → r ≡ true → insideTable is (directiveOf 50 (now (b .entry))) ≡ false) ⌝ }
-{
-    if b.len() != 16 {
-        return false;
-    }
-    !initializations::any_table_holds(
-        masks,
-        gpas,
-        sizes,
-        tables,
-        n,
-        le::u32_at(b, 8),
-        le::u64_at(b, 0),
-    )
-}
-
-fn parameter_insert_row<'a>(
-    b: &'a [u8],
-    masks: &'a [u32],
-    gpas: &'a [u64],
-    sizes: &'a [u64],
-    tables: &'a [bool],
-    n: usize,
-    few: &mut [u8; area_table::FEW],
-    areas: &mut [u32; area_table::SLOTS],
-    states: &mut [u8; area_table::SLOTS],
-) -> bool
-    requires { ⌜ (n ≤ length (now masks)) × (n ≤ length (now gpas)) × (n ≤ length (now sizes)) × (n ≤ length (now tables)) ⌝ }
-    ensures { λ r. ⌜ ((arch : Arch) (is : Rows IgvmInitializationHeader) (earlier : Rows IgvmDirectiveHeader) → HoldsTables (now (masks .entry)) (now (gpas .entry)) (now (sizes .entry)) (now (tables .entry)) n is → HoldsAreas (now (few .entry)) (now (areas .entry)) (now (states .entry)) (stateOf earlier) → r ≡ true → AreaRow arch earlier 50 (now (b .entry)) (now (few .exit)) (now (areas .exit)) (now (states .exit)) × (insideTable is (directiveOf 50 (now (b .entry))) ≡ false)) ⌝ }
-{
-    if !clear_of_tables(b, masks, gpas, sizes, tables, n) {
-        return false;
-    }
-    insert_row(b, few, areas, states)
-}
-
-// A row of any kind: its length, its codes and its tests. The first n regions of the arrays tell the page tables.
-fn named_row<'a>(
-    kind: u32,
-    b: &'a [u8],
-    x64: bool,
-    masks: &'a [u32],
-    gpas: &'a [u64],
-    sizes: &'a [u64],
-    tables: &'a [bool],
-    n: usize,
-    contexts: &mut [u32; 3],
-    few: &mut [u8; area_table::FEW],
-    areas: &mut [u32; area_table::SLOTS],
-    states: &mut [u8; area_table::SLOTS],
-) -> bool
-    requires { ⌜ (length (now contexts) ≡ 3) × ((n ≤ length (now masks)) × (n ≤ length (now gpas)) × (n ≤ length (now sizes)) × (n ≤ length (now tables))) ⌝ }
-    ensures { λ r. ⌜ ((arch : Arch) (is : Rows IgvmInitializationHeader) (earlier : Rows IgvmDirectiveHeader) → x64 ≡ isX64 arch → HoldsTables (now (masks .entry)) (now (gpas .entry)) (now (sizes .entry)) (now (tables .entry)) n is → HoldsAreas (now (few .entry)) (now (areas .entry)) (now (states .entry)) (stateOf earlier) → r ≡ true → NamedRow arch is earlier kind (now (b .entry)) (now (contexts .entry)) (now (contexts .exit)) (now (few .exit)) (now (areas .exit)) (now (states .exit))) ⌝ }
-    ensures { λ r. ⌜ (r ≡ false → now (contexts .exit) ≡ now (contexts .entry)) × (length (now (contexts .exit)) ≡ 3) ⌝ }
-{
-    match kind {
-        33 => parameter_area_row(b, few, areas, states),
-        34..=43 => parameter_row(b, few, areas, states),
-        50 => parameter_insert_row(b, masks, gpas, sizes, tables, n, few, areas, states),
-        _ => plain_row(kind, b, x64, contexts),
-    }
-}
 
 // ---- the rows
 
@@ -282,7 +34,7 @@ fn past_pages(s: &[u8], from: Cursor, end: usize) -> Cursor
         if sheet::kind_at(s, k) != 32 {
             return c;
         }
-        if !page_data(sheet::part(s, at, len)) {
+        if !directive_row::page_data(sheet::part(s, at, len)) {
             return c;
         }
         c = Cursor {
@@ -307,8 +59,8 @@ fn past_like(s: &[u8], kind: u32, from: Cursor, end: usize) -> Cursor
 // Past the rows in order that name no area.
 fn past_plain(s: &[u8], from: Cursor, end: usize, x64: bool, contexts: &mut [u32; 3]) -> Cursor
     requires { ⌜ (bodiesAt (headOf (now s)) ≤ length (now s)) × (end ≡ rowCount (headOf (now s))) × (x64 ≡ isX64 (sheetHeaders (now s) .arch)) ⌝ }
-    requires { ⌜ PlainAccepted (now s) from (now contexts) ⌝ }
-    ensures { λ r. ⌜ PlainAccepted (now (s .entry)) r (now (contexts .exit)) ⌝ }
+    requires { ⌜ DirectivesAccepted (now s) from (now contexts) × (length (now contexts) ≡ 3) ⌝ }
+    ensures { λ r. ⌜ PlainPassed (now (s .entry)) from r (now (contexts .exit)) ⌝ }
 {
     let mut c = from;
     while c.row < end {
@@ -319,7 +71,7 @@ fn past_plain(s: &[u8], from: Cursor, end: usize, x64: bool, contexts: &mut [u32
         if s.len() - at < len {
             return c;
         }
-        if !plain_row(kind, sheet::part(s, at, len), x64, contexts) {
+        if !directive_row::plain_row(kind, sheet::part(s, at, len), x64, contexts) {
             return c;
         }
         let next = Cursor {
@@ -355,7 +107,7 @@ fn past_parameters(
         if !directives::is_parameter(sheet::kind_at(s, k)) {
             return c;
         }
-        if !parameter_row(sheet::part(s, at, len), few, areas, states) {
+        if !directive_row::parameter_row(sheet::part(s, at, len), few, areas, states) {
             return c;
         }
         c = Cursor {
@@ -366,8 +118,8 @@ fn past_parameters(
     c
 }
 
-// Pages and parameters come one behind the other: loops of their own take them.
-fn past_alike(
+// Parameters come one behind the other: a loop of their own takes them.
+fn past_uses(
     s: &[u8],
     kind: u32,
     from: Cursor,
@@ -383,10 +135,61 @@ fn past_alike(
     if directives::is_parameter(kind) {
         return past_parameters(s, from, end, few, areas, states);
     }
-    past_like(s, kind, from, end)
+    from
 }
 
-// Past the rows in order, with a table of areas.
+// Past the rows in order that name an area.
+fn past_area_rows<'a>(
+    s: &'a [u8],
+    from: Cursor,
+    end: usize,
+    masks: &'a [u32],
+    gpas: &'a [u64],
+    sizes: &'a [u64],
+    tables: &'a [bool],
+    n: usize,
+    few: &mut [u8; area_table::FEW],
+    areas: &mut [u32; area_table::SLOTS],
+    states: &mut [u8; area_table::SLOTS],
+) -> Cursor
+    requires { ⌜ (bodiesAt (headOf (now s)) ≤ length (now s)) × ReadTo (now s) from × (firstDirective (now s) ≤ from .row) × (end ≡ rowCount (headOf (now s))) ⌝ }
+    requires { ⌜ ((n ≤ length (now masks)) × (n ≤ length (now gpas)) × (n ≤ length (now sizes)) × (n ≤ length (now tables))) × HoldsTables (now masks) (now gpas) (now sizes) (now tables) n (sheetHeaders (now s) .initializations) ⌝ }
+    requires { ⌜ HoldsAreas (now few) (now areas) (now states) (stateBefore (now s) (from .row)) ⌝ }
+    ensures { λ r. ⌜ AreasPassed (now (s .entry)) from r (now (few .exit)) (now (areas .exit)) (now (states .exit)) ⌝ }
+{
+    let mut c = from;
+    while c.row < end {
+        let k = c.row;
+        let at = c.at;
+        let kind = sheet::kind_at(s, k);
+        let len = sheet::length_at(s, k);
+        if s.len() - at < len {
+            return c;
+        }
+        if !directive_row::area_row(
+            kind,
+            sheet::part(s, at, len),
+            masks,
+            gpas,
+            sizes,
+            tables,
+            n,
+            few,
+            areas,
+            states,
+        ) {
+            return c;
+        }
+        let next = Cursor {
+            row: k + 1,
+            at: at + len,
+        };
+        c = past_uses(s, kind, next, end, few, areas, states);
+    }
+    c
+}
+
+// Past the rows in order, with a table of areas: those that name an area and those that name none, by turns.
 fn past_named<'a>(
     s: &'a [u8],
     from: Cursor,
@@ -410,33 +213,11 @@ fn past_named<'a>(
     let mut c = from;
     while c.row < end {
         let k = c.row;
-        let at = c.at;
-        let kind = sheet::kind_at(s, k);
-        let len = sheet::length_at(s, k);
-        if s.len() - at < len {
+        let d = past_area_rows(s, c, end, masks, gpas, sizes, tables, n, few, areas, states);
+        c = past_plain(s, d, end, x64, contexts);
+        if c.row == k {
             return c;
         }
-        if !named_row(
-            kind,
-            sheet::part(s, at, len),
-            x64,
-            masks,
-            gpas,
-            sizes,
-            tables,
-            n,
-            contexts,
-            few,
-            areas,
-            states,
-        ) {
-            return c;
-        }
-        let next = Cursor {
-            row: k + 1,
-            at: at + len,
-        };
-        c = past_alike(s, kind, next, end, few, areas, states);
     }
     c
 }

@@ -1,4 +1,4 @@
-use Rattle.directive_rows.proofs.NamedLaws.{plain-first}
+use Rattle.directive_rows.proofs.NamedLaws.{rows-first, plain-first}
 use borrow.Author.Needs.{needs}
 use Rattle.directive_rows.proofs.accept.Statement.{statement}
 use Rattle.directive_rows.proofs.accept.Tie as tie
@@ -12,11 +12,13 @@ past-plain-requires : tie.Need-past-plain-requires
 past-plain-requires c κs =
     let p = c .before .before .before .before .before .before .pre in
     let q = p .1 .1 in
-    (p .0, plain-first _ _ _ (q .0) (q .1) (q .2))
+    (p .0, rows-first _ _ (q .1) _ (q .0) (q .2))
 
 -- src/lib.rt:502:9
 past-areas-requires : tie.Need-past-areas-requires
-past-areas-requires c κs = search needs
+past-areas-requires c κs =
+    let p = c .before .before .before .before .before .before .before .before .before .before .pre in
+    (p .0, (p .1 .0, plain-first _ _ (p .1 .1 .1) _ _ (c .before .before .before .past-plain .ensures)))
 
 -- src/lib.rt:502:9
 returns : tie.Need-returns

@@ -1,7 +1,7 @@
 use native.Mathlib.Omega.{arith}
 use denote.Ref.{now}
-use lib.ListN.{length, List·getD-eq-default}
-use mathlib.Core.Path.{_≡_, sym}
+use lib.ListN.{List·getD-eq-default}
+use mathlib.Core.Path.{sym}
 use borrow.Author.Needs.{needs}
 use Rattle.directive_rows.proofs.mask_of_vtl.Statement.{statement}
 use Rattle.directive_rows.proofs.mask_of_vtl.Tie as tie

@@ -1,7 +1,7 @@
 use Rattle.directive_rows.proofs.AcceptedLaws.{onward-none, onward-page}
 use denote.Ref.{now}
 use lib.ListN.{length}
-use mathlib.Core.Path.{_≡_, sym, _∙_}
+use mathlib.Core.Path.{sym, _∙_}
 use native.Mathlib.Omega.{arith}
 use borrow.Author.Tests.{not-false}
 use borrow.Author.Needs.{needs}
@@ -11,7 +11,7 @@ use Rattle.directive_rows.proofs.past_pages.Statement.{statement}
 use Rattle.directive_rows.proofs.past_pages.Tie as tie
 use Rattle.directive_rows.proofs.past_pages.Reads as reads
 use Rattle.directive_rows.proofs.past_pages.Lts as lts
-use Rattle.directive_rows.proofs.page_data.Reads as page-data-reads
+use Rattle.directive_row.proofs.page_data.Reads as page-data-reads
 use Rattle.sheet.proofs.kind_at.Reads as kind-at-reads
 use Rattle.sheet.proofs.length_at.Reads as length-at-reads
 use Rattle.sheet.proofs.part.Reads as part-reads

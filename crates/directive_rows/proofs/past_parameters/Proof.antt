@@ -4,7 +4,7 @@ use Rattle.directive_rows.specs.Accepted.{Onward}
 use Prim.Native.Nat.{_-_, _+_, _*_, _≤_}
 use denote.Ref.{now}
 use lib.ListN.{length}
-use mathlib.Core.Path.{_≡_, sym, _∙_}
+use mathlib.Core.Path.{sym, _∙_}
 use native.Mathlib.Omega.{arith}
 use borrow.Author.Tests.{not-false}
 use borrow.Author.Needs.{needs}
@@ -12,7 +12,7 @@ use Rattle.directive_rows.proofs.past_parameters.Statement.{statement}
 use Rattle.directive_rows.proofs.past_parameters.Tie as tie
 use Rattle.directive_rows.proofs.past_parameters.Reads as reads
 use Rattle.directive_rows.proofs.past_parameters.Lts as lts
-use Rattle.directive_rows.proofs.parameter_row.Reads as parameter-row-reads
+use Rattle.directive_row.proofs.parameter_row.Reads as parameter-row-reads
 use Rattle.directives.proofs.is_parameter.Reads as is-parameter-reads
 use Rattle.sheet.proofs.kind_at.Reads as kind-at-reads
 use Rattle.sheet.proofs.length_at.Reads as length-at-reads

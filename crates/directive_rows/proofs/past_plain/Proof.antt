@@ -1,24 +1,22 @@
-use Rattle.directive_rows.proofs.AcceptedLaws.{plain-next, plain-onward}
-use Rattle.directive_rows.specs.Accepted.{PlainAccepted}
+use Rattle.directive_rows.proofs.AcceptedLaws.{plain-none, plain-next, plain-onward}
+use Rattle.directive_rows.specs.Accepted.{PlainPassed}
 use Prim.Native.Nat.{_-_, _+_, _*_, _≤_}
 use denote.Ref.{now}
 use lib.ListN.{length}
-use mathlib.Core.Path.{_≡_, sym, _∙_}
 use native.Mathlib.Omega.{arith}
 use borrow.Author.Tests.{not-false, not-true}
-use borrow.Author.Needs.{needs}
 use Rattle.directive_rows.proofs.past_plain.Statement.{statement}
 use Rattle.directive_rows.proofs.past_plain.Tie as tie
 use Rattle.directive_rows.proofs.past_plain.Reads as reads
 use Rattle.directive_rows.proofs.past_plain.Lts as lts
 use Rattle.directive_rows.proofs.past_like.Reads as past-like-reads
-use Rattle.directive_rows.proofs.plain_row.Reads as plain-row-reads
+use Rattle.directive_row.proofs.plain_row.Reads as plain-row-reads
 use Rattle.sheet.proofs.kind_at.Reads as kind-at-reads
 use Rattle.sheet.proofs.length_at.Reads as length-at-reads
 use Rattle.sheet.proofs.part.Reads as part-reads
 
 abbrev Inv-loop : tie.InvT-loop
-Inv-loop s end x64 contexts₀ c₀ contexts c = PlainAccepted s c contexts
+Inv-loop s end x64 contexts₀ c₀ contexts c = PlainPassed s c₀ c contexts
 
 abbrev μ-loop : tie.MeasureT-loop
 μ-loop s end x64 contexts₀ c₀ contexts c = end - c .row
@@ -30,7 +28,7 @@ table c = let l = c .if1 .taken in omega (arith, c .before .before .before .befo
 
 -- a row that is in order
 next : (c : tie.Else3 Inv-loop μ-loop)
-    → PlainAccepted (now (c .before .before .before .before .before .before .before .before .before .before .before .args .s))
+    → PlainPassed (now (c .before .before .before .before .before .before .before .before .before .before .before .args .s)) (c .before .before .before .before .before .before .before .before .before .before .before .args .from)
     (record {
       row = c .before .before .before .before .before .before .before .before .before .loop .c .row + 1;
       at = c .before .before .before .before .before .before .before .before .before .loop .c .at + c .before .before .before .before .before .length-at .result;
@@ -42,10 +40,10 @@ next c =
     let a = c .before .before .before .before .before .before .before .before .before .loop .inv in
     let r = a .rows .read .room in
     let p = c .before .plain-row .ensures in
-    plain-next _ _ _ _ a _ (c .before .before .before .before .before .length-at .ensures .0) (omega arith) (omega (arith, st .pre .0)) _ (c .before .before .before .before .before .before .kind-at .ensures) _ (c .before .before .before .part .ensures) (p .0 _ (st .pre .0 .2) (not-false _ (c .if3 .left))) (p .1 .1)
+    plain-next _ _ _ _ _ a _ (c .before .before .before .before .before .length-at .ensures .0) (omega arith) (omega (arith, st .pre .0)) _ (c .before .before .before .before .before .before .kind-at .ensures) _ (c .before .before .before .part .ensures) (p .0 _ (st .pre .0 .2) (not-false _ (c .if3 .left))) (p .1 .1)
 
 loop-holds : tie.Need-loop-holds Inv-loop μ-loop
-loop-holds c = c .before .pre .1
+loop-holds c = let a = c .before .pre .1 in plain-none _ _ _ (a .0) (a .1)
 
 -- src/lib.rt:180:13
 kind-at-requires : tie.Need-kind-at-requires Inv-loop μ-loop
@@ -96,7 +94,7 @@ loop-less c = let l = c .before .before .before .before .before .before .before 
 
 -- src/lib.rt:177:5
 loop-again : tie.Need-loop-again Inv-loop μ-loop
-loop-again c = plain-onward _ _ _ _ (next (c .before)) (c .past-like .ensures)
+loop-again c = plain-onward _ _ _ _ _ (next (c .before)) (c .past-like .ensures)
 
 -- src/lib.rt:171:1
 returns-3 : tie.Need-returns-3 Inv-loop μ-loop

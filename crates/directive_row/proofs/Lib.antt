@@ -1,0 +1,2 @@
+pub mod SoundLaws
+pub mod AreaRowLaws

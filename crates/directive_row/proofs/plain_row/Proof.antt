@@ -1,0 +1,104 @@
+use Rattle.directive_row.proofs.SoundLaws.{page-plain, memory-plain, snp-plain, range-plain, native-plain, cca-plain, block-plain, measurement-plain, x64-plain, aarch64-plain, is-aarch64}
+use Rattle.rows.proofs.Bools.{and-parts}
+use mathlib.Core.Bool.{false≢true}
+use mathlib.Core.Path.{refl, sym, _∙_}
+use borrow.Author.Needs.{needs}
+use Rattle.directive_row.proofs.plain_row.Statement.{statement}
+use Rattle.directive_row.proofs.plain_row.Tie as tie
+use Rattle.directive_row.proofs.plain_row.Reads as reads
+use Rattle.directive_row.proofs.plain_row.Lts as lts
+use Rattle.directive_row.proofs.error_range.Reads as error-range-reads
+use Rattle.directive_row.proofs.page_data.Reads as page-data-reads
+use Rattle.directive_row.proofs.required_memory.Reads as required-memory-reads
+use Rattle.directive_row.proofs.snp_vp_context.Reads as snp-vp-context-reads
+use Rattle.directive_row.proofs.vbs_context.Reads as vbs-context-reads
+
+-- src/lib.rt:109:15
+page-data-requires : tie.Need-page-data-requires
+page-data-requires c κs = search needs
+
+-- src/lib.rt:110:15
+required-memory-requires : tie.Need-required-memory-requires
+required-memory-requires c κs = search needs
+
+-- src/lib.rt:111:15
+snp-vp-context-requires : tie.Need-snp-vp-context-requires
+snp-vp-context-requires c κs = search needs
+
+-- src/lib.rt:113:21
+vbs-context-requires : tie.Need-vbs-context-requires
+vbs-context-requires c κs = search needs
+
+-- src/lib.rt:114:22
+vbs-context-requires-2 : tie.Need-vbs-context-requires-2
+vbs-context-requires-2 c κs = search needs
+
+-- src/lib.rt:116:15
+error-range-requires : tie.Need-error-range-requires
+error-range-requires c κs = search needs
+
+-- src/lib.rt:105:1
+returns : tie.Need-returns
+returns c = (λ arch x e. page-plain arch _ _ _ (c .before .match .keys1) (c .page-data .ensures arch e), (λ e. refl, c .before .before .before .pre))
+
+-- src/lib.rt:105:1
+returns-2 : tie.Need-returns-2
+returns-2 c = (λ arch x e. memory-plain arch _ _ _ (c .before .match .keys2) (c .required-memory .ensures arch e), (λ e. refl, c .before .before .before .pre))
+
+-- src/lib.rt:105:1
+returns-3 : tie.Need-returns-3
+returns-3 c = (λ arch x e. snp-plain arch _ _ _ (c .before .match .keys3) (c .snp-vp-context .ensures arch e), (λ e. refl, c .before .before .before .pre))
+
+-- src/lib.rt:105:1
+returns-4 : tie.Need-returns-4
+returns-4 c = (λ arch x e. let (t, l) = and-parts _ _ e in native-plain arch _ _ _ (c .match .keys4) (sym x ∙ t) l, (λ e. refl, c .before .before .pre))
+
+-- src/lib.rt:105:1
+returns-5 : tie.Need-returns-5
+returns-5 c = (λ arch x e. let (t, v) = c .vbs-context .ensures .0 e in x64-plain arch _ _ _ _ (c .before .before .match .keys5) (sym x ∙ t) v, c .vbs-context .ensures .1)
+
+-- src/lib.rt:105:1
+returns-6 : tie.Need-returns-6
+returns-6 c = (λ arch x e. let (t, v) = c .vbs-context2 .ensures .0 e in aarch64-plain arch _ _ _ _ (c .before .before .match .keys6) (is-aarch64 arch _ x t) v, c .vbs-context2 .ensures .1)
+
+-- src/lib.rt:105:1
+returns-7 : tie.Need-returns-7
+returns-7 c = (λ arch x e. let (t, l) = and-parts _ _ e in cca-plain arch _ _ _ (c .match .keys7) (is-aarch64 arch _ x t) l, (λ e. refl, c .before .before .pre))
+
+-- src/lib.rt:105:1
+returns-8 : tie.Need-returns-8
+returns-8 c = (λ arch x e. range-plain arch _ _ _ (c .before .match .keys8) (c .error-range .ensures arch e), (λ e. refl, c .before .before .before .pre))
+
+-- src/lib.rt:105:1
+returns-9 : tie.Need-returns-9
+returns-9 c = (λ arch x e. block-plain arch _ _ _ (c .match .keys9) e, (λ e. refl, c .before .before .pre))
+
+-- src/lib.rt:105:1
+returns-10 : tie.Need-returns-10
+returns-10 c = (λ arch x e. measurement-plain arch _ _ _ (c .match .keys10) e, (λ e. refl, c .before .before .pre))
+
+-- src/lib.rt:105:1
+returns-11 : tie.Need-returns-11
+returns-11 c = (λ arch x e. absurd (false≢true e), (λ e. refl, c .before .before .pre))
+
+pub plain-row-spec : {M : Type 1} → statement M
+plain-row-spec =
+    tie.close
+    (tie.spec
+    page-data-requires
+    required-memory-requires
+    snp-vp-context-requires
+    vbs-context-requires
+    vbs-context-requires-2
+    error-range-requires
+    returns
+    returns-2
+    returns-3
+    returns-4
+    returns-5
+    returns-6
+    returns-7
+    returns-8
+    returns-9
+    returns-10
+    returns-11)
