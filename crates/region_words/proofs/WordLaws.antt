@@ -1,28 +1,54 @@
 -- The words of a mask's regions, one row at a time.
 -- Assumes nothing.
-use mathlib.Core.Path.{_≡_, refl, sym}
+use mathlib.Core.Path.{_≡_, refl, sym, _∙_}
 use mathlib.Core.Bool.{Bool, true, false, cond, false≢true}
-use mathlib.Core.List.{List}
-use Prim.Native.Nat.{ℕ, _+_, _<_}
+use mathlib.Core.List.{List, [], _∷_}
+use Prim.Native.Nat.{ℕ, _+_, _/_, _%_, _≤_, _<_}
 use native.Mathlib.Nat.{add-zero}
+use native.Mathlib.Omega.{arith}
+use lib.Dec.{eqb}
 use Rattle.rows.specs.Rows.{Rows, before}
+use Rattle.le.specs.Le.{byteAt, leAt}
+use Rattle.igvm_defs.specs.Kinds.{kindOf, initializationList}
+use Rattle.igvm_defs.proofs.Runs.{each, _⨾_}
+use Rattle.igvm_defs.proofs.VtlLaws.{vtl-number}
 use Rattle.initialization_header.specs.declared.IgvmInitializationHeader.{IgvmInitializationHeader}
 use Rattle.initialization_header.specs.declared.IgvmInitializationHeader.the-variants.{GuestPolicy, CcaPolicy, RelocatableRegion, PageTableRelocationRegion}
-use Rattle.rules.specs.Relocations.{isRelocatable, relocatableOf, wordsOf, regionCount, regionAt}
+use Rattle.initialization_header.specs.Fields.{kindNumber}
+use Rattle.initialization_header.specs.Initializations.{initializationOf, relocatableRegionOf}
+use Rattle.initialization_header.proofs.InitializationLaws.{kind-initialization}
+use Rattle.rules.specs.Relocations.{isRelocatable, relocatableOf, regionCount, regionAt}
 use Rattle.rules.proofs.QueryLaws.{number-below, region-found}
 use Rattle.words.specs.Lent.{rowPut, rowsPut}
 use Rattle.words.proofs.LentLaws.{rows-more}
 use Rattle.answers.specs.Relocations.{regionWords}
-use Rattle.regions.specs.Found.{foundRegion}
 use Rattle.regions.proofs.FoundLaws.{regions-more}
 
--- the words of a header that is a region of the mask
-pub header-words : (given : ℕ) (h : IgvmInitializationHeader) → isRelocatable given h ≡ true
-    → wordsOf (foundRegion (relocatableOf h) .region) ≡ regionWords (relocatableOf h)
-header-words given (GuestPolicy a b) e = absurd (false≢true e)
-header-words given (CcaPolicy a b c) e = absurd (false≢true e)
-header-words given (RelocatableRegion a b c d e f g h i j k) t = refl
-header-words given (PageTableRelocationRegion a b c d e f) t = absurd (false≢true t)
+-- flags up to 7 are the sum of their bits
+flags-bits : (f : ℕ) → f ≤ 7 → cond (eqb (f % 2) 1) 1 0 + cond (eqb (f / 2 % 2) 1) 2 0 + cond (eqb (f / 4 % 2) 1) 4 0 ≡ f
+flags-bits f h =
+    each (λ (k : ℕ). cond (eqb (k % 2) 1) 1 0 + cond (eqb (k / 2 % 2) 1) 2 0 + cond (eqb (k / 4 % 2) 1) 4 0 ≡ k) 0 8
+    (refl ⨾ refl ⨾ refl ⨾ refl ⨾ refl ⨾ refl ⨾ refl ⨾ refl ⨾ tt) f (omega arith) (omega arith)
+
+-- a row that is a region of the mask is of kind 18
+pub region-kind : (given kind : ℕ) (b : List ℕ) → kindOf kind .list ≡ initializationList → isRelocatable given (initializationOf kind b) ≡ true → kind ≡ 18
+region-kind given kind b l m = sym (kind-initialization kind l b) ∙ go (initializationOf kind b) m
+  where
+    go : (h : IgvmInitializationHeader) → isRelocatable given h ≡ true → kindNumber h ≡ 18
+    go (GuestPolicy policy mask) e = absurd (false≢true e)
+    go (CcaPolicy mask zeroes ones) e = absurd (false≢true e)
+    go (RelocatableRegion mask alignment gpa size minimum maximum vtl2 rip gdtr vp vtl) e = refl
+    go (PageTableRelocationRegion mask gpa size used vp vtl) e = absurd (false≢true e)
+
+pub region-header : (b : List ℕ) → initializationOf 18 b ≡ relocatableRegionOf b
+unfolding initializationOf
+region-header b = refl
+
+-- the words of a region, as its body has them
+pub body-words : (b : List ℕ) → byteAt b 44 ≤ 7 → byteAt b 47 ≤ 2
+    → leAt 8 b 12 ∷ leAt 8 b 20 ∷ leAt 8 b 4 ∷ leAt 8 b 28 ∷ leAt 8 b 36 ∷ byteAt b 44 ∷ leAt 2 b 45 ∷ byteAt b 47 ∷ []
+    ≡ regionWords (relocatableOf (relocatableRegionOf b))
+body-words b f v = rw (flags-bits (byteAt b 44) f, vtl-number (byteAt b 47) v)
 
 module _ (xs : Rows IgvmInitializationHeader) (given : ℕ) where
   -- the words of region n

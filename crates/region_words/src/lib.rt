@@ -1,46 +1,103 @@
 // The words of a mask's regions, in header order, into lent bytes.
 ghost use mathlib.Core.Path.{_≡_};
-ghost use mathlib.Core.Bool.{true, cond};
-ghost use Prim.Native.Nat.{_+_, _*_, _≤_};
+ghost use mathlib.Core.Bool.{true, cond, _&&_};
+ghost use mathlib.Core.Option.{none};
+ghost use Prim.Native.Nat.{_+_, _*_, _≤_, _<_};
+ghost use lib.Dec.{eqb};
 ghost use lib.ListN.{length};
+ghost use Rattle.le.specs.Le.{byteAt};
+ghost use Rattle.igvm_defs.specs.Kinds.{kindOf, initializationList};
 ghost use Rattle.sheet.specs.Head.{limits, headOf};
-ghost use Rattle.sheet.specs.Read.{Readable};
-ghost use Rattle.rules.specs.Relocations.{isRelocatable, relocatableOf, wordsOf, regionCount, regionAt, pageTableAt};
+ghost use Rattle.sheet.specs.Table.{rowKind, bodyOf};
+ghost use Rattle.sheet.specs.Read.{codesOk, Readable};
+ghost use Rattle.initialization_header.specs.Initializations.{initializationOf, relocatableRegionOf};
+ghost use Rattle.rules.specs.Relocations.{isRelocatable, isPageTable, relocatableOf, pageTableOf, regionCount, regionAt, pageTableAt};
 ghost use Rattle.words.specs.Lent.{rowPut, rowsPut};
 ghost use Rattle.answers.specs.Relocations.{sheetInitializations, regionWords};
 ghost use Rattle.regions.specs.Found.{foundTable};
-use initialization_header::IgvmInitializationHeader;
 use regions::FoundTable;
-use rules::IgvmRelocatableRegion;
 use sheet::SheetHead;
 
-fn words_of(r: IgvmRelocatableRegion) -> [u64; 8]
-    ensures { λ w. ⌜ w ≡ wordsOf r ⌝ }
+// ---- one row, by its kind and its body
+
+// Whether the row is a region of the mask.
+fn is_region(given: u32, kind: u32, b: &[u8]) -> bool
+    requires { ⌜ (kindOf kind .list ≡ initializationList) × (kindOf kind .least ≤ length (now b)) ⌝ }
+    ensures { λ r. ⌜ r ≡ isRelocatable given (initializationOf kind (now (b .entry))) ⌝ }
+{
+    if kind != 18 {
+        return false;
+    }
+    masks::matches(given, le::u32_at(b, 0))
+}
+
+// Whether the row is a page table of the mask.
+fn is_table(given: u32, kind: u32, b: &[u8]) -> bool
+    requires { ⌜ (kindOf kind .list ≡ initializationList) × (kindOf kind .least ≤ length (now b)) ⌝ }
+    ensures { λ r. ⌜ r ≡ isPageTable given (initializationOf kind (now (b .entry))) ⌝ }
+{
+    if kind != 19 {
+        return false;
+    }
+    masks::matches(given, le::u32_at(b, 0))
+}
+
+// The words of a region, as its body has them.
+fn words_of(b: &[u8]) -> [u64; 8]
+    requires { ⌜ (48 ≤ length (now b)) × (byteAt (now b) 44 ≤ 7) × (byteAt (now b) 47 ≤ 2) ⌝ }
+    ensures { λ w. ⌜ w ≡ regionWords (relocatableOf (relocatableRegionOf (now (b .entry)))) ⌝ }
 {
     [
-        r.base_gpa,
-        r.size,
-        r.relocation_alignment,
-        r.minimum_relocation_gpa,
-        r.maximum_relocation_gpa,
-        r.flags,
-        r.vp_index,
-        r.vtl,
+        le::u64_at(b, 12),
+        le::u64_at(b, 20),
+        le::u64_at(b, 4),
+        le::u64_at(b, 28),
+        le::u64_at(b, 36),
+        b[44] as u64,
+        le::u16_at(b, 45) as u64,
+        b[47] as u64,
     ]
 }
 
-// Puts the header's words as row n of the lent bytes where it is a region of the mask; how many rows there are then.
-fn put_region(given: u32, h: IgvmInitializationHeader, n: usize, words: &mut [u8]) -> usize
-    requires { ⌜ (isRelocatable given h ≡ true → 64 * n + 64 ≤ length (now words)) × (n ≤ 64) ⌝ }
-    ensures { λ r. ⌜ r ≡ n + cond (isRelocatable given h) 1 0 ⌝ }
-    ensures { λ _. ⌜ now (words .exit) ≡ cond (isRelocatable given h) (rowPut n (regionWords (relocatableOf h)) (now (words .entry))) (now (words .entry)) ⌝ }
+// Puts the row's words as row n of the lent bytes where it is a region of the mask; how many rows there are then.
+fn put_region(given: u32, kind: u32, b: &[u8], n: usize, words: &mut [u8]) -> usize
+    requires { ⌜ (kindOf kind .list ≡ initializationList) × (kindOf kind .least ≤ length (now b)) × (codesOk kind (now b) ≡ true) × (n ≤ 64) ⌝ }
+    requires { ⌜ (isRelocatable given (initializationOf kind (now b)) ≡ true → 64 * n + 64 ≤ length (now words)) ⌝ }
+    ensures { λ r. ⌜ r ≡ n + cond (isRelocatable given (initializationOf kind (now (b .entry)))) 1 0 ⌝ }
+    ensures { λ _. ⌜ now (words .exit) ≡ cond (isRelocatable given (initializationOf kind (now (b .entry)))) (rowPut n (regionWords (relocatableOf (initializationOf kind (now (b .entry))))) (now (words .entry))) (now (words .entry)) ⌝ }
 {
-    if regions::is_relocatable(given, h) {
-        let r = regions::relocatable_of(h);
-        words::put_words(words, n, words_of(r.region));
+    if is_region(given, kind, b) {
+        words::put_words(words, n, words_of(b));
         return n + 1;
     }
     n
+}
+
+// The row of the mask's first page table: t, or this row where t is still the end.
+fn table_row(given: u32, kind: u32, b: &[u8], row: usize, t: usize, end: usize) -> usize
+    requires { ⌜ (kindOf kind .list ≡ initializationList) × (kindOf kind .least ≤ length (now b)) ⌝ }
+    ensures { λ r. ⌜ r ≡ cond (isPageTable given (initializationOf kind (now (b .entry))) && eqb t end) row t ⌝ }
+{
+    if is_table(given, kind, b) & (t == end) {
+        return row;
+    }
+    t
+}
+
+// ---- over the initialization rows of a readable sheet
+
+// The page table of row t; none where t is the end of the rows.
+fn found_table(s: &[u8], t: usize, end: usize) -> FoundTable
+    requires { ⌜ Readable limits (now s) × (headOf (now s) .platforms ≤ t) × (t ≤ end) × (end ≡ headOf (now s) .platforms + headOf (now s) .initializations) ⌝ }
+    ensures { λ r. ⌜ r ≡ cond (eqb t end) (foundTable none) (foundTable (pageTableOf (initializationOf (rowKind (now (s .entry)) t) (bodyOf (now (s .entry)) t)))) ⌝ }
+{
+    if t == end {
+        return FoundTable {
+            found: false,
+            table: regions::NO_PAGE_TABLE,
+        };
+    }
+    regions::page_table_of(headers::initialization_at(s, sheet::cursor_at(s, t)))
 }
 
 // Puts the words of the mask's regions into the lent bytes, in header order, and finds its page-table region on the way.
@@ -49,20 +106,18 @@ pub fn put_regions(s: &[u8], head: SheetHead, given: u32, words: &mut [u8]) -> F
     ensures { λ r. ⌜ r ≡ foundTable (pageTableAt (sheetInitializations (now (s .entry))) given) ⌝ }
     ensures { λ _. ⌜ now (words .exit) ≡ rowsPut (regionCount (sheetInitializations (now (s .entry))) given) (λ n. regionWords (regionAt (sheetInitializations (now (s .entry))) given n)) (now (words .entry)) ⌝ }
 {
-    let n = head.initializations as usize;
-    let mut c = sheet::cursor_at(s, head.platforms as usize);
-    let mut found = FoundTable {
-        found: false,
-        table: regions::NO_PAGE_TABLE,
-    };
+    let first = head.platforms as usize;
+    let end = first + (head.initializations as usize);
+    let mut c = sheet::cursor_at(s, first);
+    let mut t = end;
     let mut count: usize = 0;
-    let mut i = 0;
-    while i < n {
-        let h = headers::initialization_at(s, c);
-        found = regions::table_step(given, h, found);
-        count = put_region(given, h, count, words);
-        c = c.next(s);
-        i += 1;
+    while c.row < end {
+        let kind = c.kind(s);
+        let b = c.body(s);
+        let next = c.next(s);
+        t = table_row(given, kind, b, c.row, t, end);
+        count = put_region(given, kind, b, count, words);
+        c = next;
     }
-    found
+    found_table(s, t, end)
 }

@@ -34,7 +34,8 @@ module _ {H A F : Type 0} (p : H → Bool) (of : H → Option A) (found : Option
 
 -- ---- initialization rows
 
-table-is-found : (given : ℕ) (h : IgvmInitializationHeader) → isPageTable given h ≡ true → foundTable (pageTableOf h) .found ≡ true
+-- a page table of the mask is found
+pub table-is-found : (given : ℕ) (h : IgvmInitializationHeader) → isPageTable given h ≡ true → foundTable (pageTableOf h) .found ≡ true
 table-is-found given (GuestPolicy a b) e = e
 table-is-found given (CcaPolicy a b c) e = e
 table-is-found given (RelocatableRegion a b c d e f g h i j k) t = t

@@ -1,19 +1,21 @@
 -- A loop over the initialization rows of a readable sheet: where it starts, what a turn of it knows, and where it ends.
 -- Assumes nothing.
 use mathlib.Core.Path.{_≡_, refl}
+use mathlib.Core.Bool.{true}
 use mathlib.Core.List.{List}
 use Prim.Native.Nat.{ℕ, _+_, _<_, _≤_}
 use native.Mathlib.Nat.{add-zero}
 use native.Mathlib.Omega.{arith}
+use lib.ListN.{length}
 use Rattle.rows.specs.Rows.{before}
 use Rattle.igvm_defs.specs.Kinds.{initializationList, kindOf}
 use Rattle.sheet.specs.declared.Cursor.{Cursor}
 use Rattle.sheet.specs.declared.SheetHead.{SheetHead}
 use Rattle.sheet.specs.Head.{limits, headOf, rowCount}
 use Rattle.sheet.specs.Table.{rowKind, bodyOf}
-use Rattle.sheet.specs.Read.{Readable}
+use Rattle.sheet.specs.Read.{codesOk, Readable}
 use Rattle.sheet.specs.Walk.{cursorAt, AtRow}
-use Rattle.sheet.proofs.Readable.{readable-bounds, at-row, initialization-row}
+use Rattle.sheet.proofs.Readable.{readable-bounds, readable-row, readable-least, at-row, initialization-row}
 use Rattle.initialization_header.specs.Initializations.{initializationOf}
 use Rattle.headers.specs.Headers.{sheetHeaders}
 use Rattle.answers.specs.Relocations.{sheetInitializations}
@@ -22,6 +24,8 @@ use Rattle.answers.specs.Relocations.{sheetInitializations}
 pub record AtInitialization (s : List ℕ) (c : Cursor) (i : ℕ) : Type 0 where
   pub place : AtRow s c
   pub list : kindOf (rowKind s (c .row)) .list ≡ initializationList
+  pub least : kindOf (rowKind s (c .row)) .least ≤ length (bodyOf s (c .row))
+  pub codes : codesOk (rowKind s (c .row)) (bodyOf s (c .row)) ≡ true
   pub header : initializationOf (rowKind s (c .row)) (bodyOf s (c .row)) ≡ sheetInitializations s .row i
   pub next : cursorAt s (c .row + 1) ≡ cursorAt s (headOf s .platforms + (i + 1))
   pub within : i < sheetInitializations s .count
@@ -54,6 +58,8 @@ module _ (s : List ℕ) (head : SheetHead) (e : head ≡ headOf s) where
       rw p (record {
         place = at-row limits s ok (headOf s .platforms + i) (omega arith);
         list = initialization-row limits s ok (headOf s .platforms + i) (omega arith) (omega arith);
+        least = readable-least limits s ok (headOf s .platforms + i) (omega arith);
+        codes = readable-row limits s ok (headOf s .platforms + i) (omega arith) .codes;
         header = row-header s i;
         next = rw z;
         within = rw row-count h;

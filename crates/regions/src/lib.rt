@@ -7,7 +7,7 @@ ghost use Rattle.rows.specs.Below.{countBelow};
 ghost use Rattle.masks.specs.Masks.{matches};
 ghost use Rattle.sheet.specs.Head.{limits, headOf};
 ghost use Rattle.sheet.specs.Read.{Readable};
-ghost use Rattle.rules.specs.Relocations.{isRelocatable, isPageTable, relocatableOf, pageTableOf, regionAt};
+ghost use Rattle.rules.specs.Relocations.{isRelocatable, relocatableOf, pageTableOf, regionAt};
 ghost use Rattle.answers.specs.Relocations.{sheetInitializations};
 ghost use Rattle.regions.specs.Found.{foundRegion, foundTable};
 use initialization_header::IgvmInitializationHeader;
@@ -17,23 +17,11 @@ use sheet::SheetHead;
 
 // ---- one header
 
-pub fn is_relocatable(given: u32, h: IgvmInitializationHeader) -> bool
+fn is_relocatable(given: u32, h: IgvmInitializationHeader) -> bool
     ensures { λ r. ⌜ r ≡ isRelocatable given h ⌝ }
 {
     match h {
         IgvmInitializationHeader::RelocatableRegion {
-            compatibility_mask,
-            ..
-        } => masks::matches(given, compatibility_mask),
-        _ => false,
-    }
-}
-
-fn is_page_table(given: u32, h: IgvmInitializationHeader) -> bool
-    ensures { λ r. ⌜ r ≡ isPageTable given h ⌝ }
-{
-    match h {
-        IgvmInitializationHeader::PageTableRelocationRegion {
             compatibility_mask,
             ..
         } => masks::matches(given, compatibility_mask),
@@ -80,7 +68,7 @@ fn one_if(test: bool, n: u64) -> u64
     0
 }
 
-pub fn relocatable_of(h: IgvmInitializationHeader) -> FoundRegion
+fn relocatable_of(h: IgvmInitializationHeader) -> FoundRegion
     ensures { λ r. ⌜ r ≡ foundRegion (relocatableOf h) ⌝ }
 {
     match h {
@@ -118,7 +106,7 @@ pub fn relocatable_of(h: IgvmInitializationHeader) -> FoundRegion
     }
 }
 
-fn page_table_of(h: IgvmInitializationHeader) -> FoundTable
+pub fn page_table_of(h: IgvmInitializationHeader) -> FoundTable
     ensures { λ r. ⌜ r ≡ foundTable (pageTableOf h) ⌝ }
 {
     match h {
@@ -198,16 +186,6 @@ pub fn region_at(s: &[u8], head: SheetHead, given: u32, k: u64) -> FoundRegion
         seen += one_if(is_relocatable(given, h), 1);
         c = c.next(s);
         i += 1;
-    }
-    found
-}
-
-// The table that was found, or this header's where none was found before it.
-pub fn table_step(given: u32, h: IgvmInitializationHeader, found: FoundTable) -> FoundTable
-    ensures { λ r. ⌜ r ≡ cond (isPageTable given h && not (found .found)) (foundTable (pageTableOf h)) found ⌝ }
-{
-    if is_page_table(given, h) & !found.found {
-        return page_table_of(h);
     }
     found
 }
