@@ -18,7 +18,7 @@ ghost use Rattle.initializations.specs.Record.{regionsIn};
 ghost use Rattle.initialization_rows.specs.Row.{InOrder};
 ghost use Rattle.initialization_rows.specs.Accepted.{InitializationsAccepted};
 ghost use Rattle.platform_rows.specs.Accepted.{HoldsCca};
-use initializations::Reach;
+use extents::Reach;
 use rules::Region;
 use sheet::Cursor;
 

@@ -1,7 +1,7 @@
 use mathlib.Core.Path.{refl}
 use Rattle.rows.specs.Below.{anyBelow}
-use Rattle.initializations.proofs.Reach.new.Statement.{statement}
-use Rattle.initializations.proofs.Reach.new.Tie as tie
+use Rattle.extents.proofs.Reach.new.Statement.{statement}
+use Rattle.extents.proofs.Reach.new.Tie as tie
 
 returns : tie.Need-returns
 unfolding anyBelow

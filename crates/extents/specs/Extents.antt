@@ -9,8 +9,8 @@ use Rattle.masks.specs.Masks.{shares}
 use Rattle.initialization_header.specs.declared.IgvmInitializationHeader.{IgvmInitializationHeader}
 use Rattle.rules.specs.declared.Region.{Region}
 use Rattle.rules.specs.Regions.{regionPasses, overlap}
-use Rattle.initializations.specs.declared.Extent.{Extent}
-use Rattle.initializations.specs.declared.Reach.{Reach}
+use Rattle.extents.specs.declared.Extent.{Extent}
+use Rattle.extents.specs.declared.Reach.{Reach}
 
 -- the region starts at the end or later, ends at the start or before, or shares no bit
 unfoldable pub apart : Extent → Region → Bool

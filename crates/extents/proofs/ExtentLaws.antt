@@ -6,25 +6,20 @@ use mathlib.Core.Logic.{_⊎_, inl, inr}
 use mathlib.Core.Option.{none, some}
 use Prim.Native.Nat.{ℕ, _+_, _≤_}
 use native.Mathlib.Omega.{arith}
-use lib.Bits.{bitOr}
-use lib.Dec.{eqb, leb, ltb}
-use borrow.Author.Tests.{leb-true, le-leb, le-ltb, ltb-false, not-true}
+use lib.Dec.{leb, ltb}
+use borrow.Author.Tests.{leb-true, le-leb, le-ltb, not-true}
 use Rattle.rows.specs.Rows.{Rows, any, before}
 use Rattle.rows.proofs.Bools.{or-cases, or-left, or-right, or-false-parts, and-parts, and-both}
 use Rattle.rows.proofs.BelowLaws.{any-more}
-use Rattle.igvm_defs.specs.declared.Fault.{Fault}
-use Rattle.igvm_defs.specs.Refusals.{fault, noFault, refuse, isFault}
 use Rattle.masks.specs.Masks.{shares}
 use Rattle.masks.proofs.MaskLaws.{shares-sym, shares-or}
-use Rattle.addresses.specs.Addresses.{meets, endsBeyond}
+use Rattle.addresses.specs.Addresses.{meets}
 use Rattle.initialization_header.specs.declared.IgvmInitializationHeader.{IgvmInitializationHeader}
 use Rattle.rules.specs.declared.Region.{Region}
 use Rattle.rules.specs.Regions.{regionOf, regionPasses, overlap}
-use Rattle.rules.proofs.FaultLaws.{refuse-none, or-none}
-use Rattle.initializations.specs.declared.Extent.{Extent}
-use Rattle.initializations.specs.declared.Reach.{Reach}
-use Rattle.initializations.specs.Record.{regionFault}
-use Rattle.initializations.specs.Extents.{apart, Widened, apartFrom, Covers}
+use Rattle.extents.specs.declared.Extent.{Extent}
+use Rattle.extents.specs.declared.Reach.{Reach}
+use Rattle.extents.specs.Extents.{apart, Widened, apartFrom, Covers}
 
 -- ---- one extent
 
@@ -116,13 +111,3 @@ covers-more e w xs i found new covers f wider q t =
     last : (x : Bool) → regionOf (xs .row i) ≡ cond x (some new) none → (x ≡ true → overlap q new ≡ false) → regionPasses (overlap q) (xs .row i) ≡ false
     last true g h = rw g (h refl)
     last false g h = rw g
-
--- a region that stands without a fault ends below 2^64
-pub region-ends : (own : Fault) (shares overlaps : Bool) (r : Region) → isFault (regionFault own shares overlaps r) ≡ false → r .gpa + r .size ≤ 18446744073709551615
-unfolding regionFault endsBeyond
-region-ends own s o r e =
-    let (_, r26) = or-none own _ .0 e in
-    let (_, r27) = refuse-none s 25 0 _ .0 r26 in
-    let (_, r28) = refuse-none (eqb (r .size) 0) 26 0 _ .0 r27 in
-    let (c28, _) = refuse-none (endsBeyond (r .gpa) (r .size)) 27 0 (refuse o (fault 29 0) noFault) .0 r28 in
-    ltb-false 18446744073709551615 (r .gpa + r .size) c28

@@ -1,7 +1,7 @@
 use borrow.Author.Needs.{needs}
-use Rattle.initializations.specs.Extents.{apartFrom}
-use Rattle.initializations.proofs.Reach.apart.Statement.{statement}
-use Rattle.initializations.proofs.Reach.apart.Tie as tie
+use Rattle.extents.specs.Extents.{apartFrom}
+use Rattle.extents.proofs.Reach.apart.Statement.{statement}
+use Rattle.extents.proofs.Reach.apart.Tie as tie
 
 apart-requires : tie.Need-apart-requires
 apart-requires c κs = search needs

@@ -1,9 +1,9 @@
 use borrow.Author.Tests.{not-true, not-false}
 use Rattle.rows.proofs.Bools.{not-both}
-use Rattle.initializations.specs.Extents.{apartFrom}
-use Rattle.initializations.proofs.ExtentLaws.{wider-tables, wider-regions}
-use Rattle.initializations.proofs.Reach.with.Statement.{statement}
-use Rattle.initializations.proofs.Reach.with.Tie as tie
+use Rattle.extents.specs.Extents.{apartFrom}
+use Rattle.extents.proofs.ExtentLaws.{wider-tables, wider-regions}
+use Rattle.extents.proofs.Reach.with.Statement.{statement}
+use Rattle.extents.proofs.Reach.with.Tie as tie
 
 returns : tie.Need-returns
 returns c q t = (t, λ e. not-both (not-true (c .before .before .before .args .found) (c .if1 .taken)) e)

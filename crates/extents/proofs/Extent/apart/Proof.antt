@@ -1,7 +1,7 @@
 use borrow.Author.Needs.{needs}
-use Rattle.initializations.specs.Extents.{apart}
-use Rattle.initializations.proofs.Extent.apart.Statement.{statement}
-use Rattle.initializations.proofs.Extent.apart.Tie as tie
+use Rattle.extents.specs.Extents.{apart}
+use Rattle.extents.proofs.Extent.apart.Statement.{statement}
+use Rattle.extents.proofs.Extent.apart.Tie as tie
 
 ends-by-requires : tie.Need-ends-by-requires
 ends-by-requires c κs = search needs
