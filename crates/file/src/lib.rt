@@ -74,7 +74,7 @@ fn validate_from(s: &[u8], head: SheetHead, from: Cursor) -> DirectivesPass
     requires { ⌜ (isFault (startFault limits (now s)) ≡ false) × (head ≡ headOf (now s)) × ReadTo (now s) from ⌝ }
     ensures { λ r. ⌜ VerdictPassed (now (s .entry)) (r .refusal) (r .contexts) ⌝ }
 {
-    let read = sheet::read_from(s, head, from);
+    let read = reading::read_from(s, head, from);
     if read.is_refusal() {
         return no_contexts(read);
     }

@@ -3,9 +3,9 @@ use Prim.Native.Nat.{ℕ}
 use native.Mathlib.Omega.{arith}
 use borrow.Author.Tests.{ne-eqb}
 use Rattle.igvm_defs.specs.Kinds.{kindOf, spans}
 use Rattle.sheet.specs.Read.{codesOk}
-use Rattle.sheet.proofs.codes_ok.Statement.{statement}
-use Rattle.sheet.proofs.codes_ok.Tie as tie
+use Rattle.reading.proofs.codes_ok.Statement.{statement}
+use Rattle.reading.proofs.codes_ok.Tie as tie
 
 shared-slice-read-result : tie.Need-shared-slice-read-result
 unfolding kindOf spans

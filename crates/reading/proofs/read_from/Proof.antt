@@ -8,15 +8,16 @@ use denote.Ref.{now}
 use Rattle.igvm_defs.specs.Kinds.{kindOf}
 use Rattle.igvm_defs.specs.Refusals.{isFault}
 use Rattle.igvm_defs.proofs.LengthLaws.{length-least}
 use Rattle.sheet.specs.declared.Cursor.{Cursor}
 use Rattle.sheet.specs.Head.{headOf, rowCount}
 use Rattle.sheet.specs.Read.{rowFault, endFault}
 use Rattle.sheet.specs.Table.{rowKind, rowLength, offsetOf}
 use Rattle.sheet.specs.Walk.{cursorAt, Passed}
-use Rattle.sheet.proofs.ReadLaws.{passed-more, passed-to, rows-stop, rows-end}
+use Rattle.sheet.proofs.ReadLaws.{passed-more, rows-end}
+use Rattle.reading.proofs.RowLaws.{passed-to, rows-stop}
 use Rattle.sheet.proofs.Readable.{RowOk, offset-next, row-says}
-use Rattle.sheet.proofs.read_from.Statement.{statement}
-use Rattle.sheet.proofs.read_from.Tie as tie
+use Rattle.reading.proofs.read_from.Statement.{statement}
+use Rattle.reading.proofs.read_from.Tie as tie
 
 abbrev Inv-loop : tie.InvT-loop
 Inv-loop s h kinds n c₀ c = (c ≡ cursorAt s (c .row)) × (c .row ≤ n) × (c .at ≤ length s) × Passed s (c .row)

@@ -1,7 +1,7 @@
 use borrow.Author.Needs.{needs}
-use Rattle.sheet.specs.Walk.{pageFits}
-use Rattle.sheet.proofs.is_page.Statement.{statement}
-use Rattle.sheet.proofs.is_page.Tie as tie
+use Rattle.reading.specs.Pages.{pageFits}
+use Rattle.reading.proofs.is_page.Statement.{statement}
+use Rattle.reading.proofs.is_page.Tie as tie
 
 length-at-requires : tie.Need-length-at-requires
 length-at-requires c κs = search needs

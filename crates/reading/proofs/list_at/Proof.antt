@@ -1,8 +1,8 @@
 use borrow.Author.Needs.{needs}
 use borrow.Author.Tests.{lt-ltb, le-ltb}
 use Rattle.sheet.specs.Read.{listAt}
-use Rattle.sheet.proofs.list_at.Statement.{statement}
-use Rattle.sheet.proofs.list_at.Tie as tie
+use Rattle.reading.proofs.list_at.Statement.{statement}
+use Rattle.reading.proofs.list_at.Tie as tie
 
 cast-p : tie.Need-cast-p
 cast-p c = search needs

@@ -9,11 +9,11 @@ use borrow.Author.Tests.{eq-eqb, ne-eqb, lt-ltb, le-ltb, not-true, not-false}
 use denote.Ref.{now}
 use Rattle.igvm_defs.proofs.LengthLaws.{length-least}
 use Rattle.igvm_defs.specs.Kinds.{kindOf, lengthOk}
 use Rattle.sheet.specs.Head.{headOf}
 use Rattle.sheet.specs.Read.{listAt, rowFault}
 use Rattle.sheet.specs.Table.{rowKind, rowLength, offsetOf, bodyOf}
-use Rattle.sheet.proofs.row_fault.Statement.{statement}
-use Rattle.sheet.proofs.row_fault.Tie as tie
+use Rattle.reading.proofs.row_fault.Statement.{statement}
+use Rattle.reading.proofs.row_fault.Tie as tie
 
 -- the code's tests are the definition's
 list-test : (c : tie.After-list-at) → let a = c .before .before .before .before .args in

@@ -9,16 +9,17 @@ use borrow.Author.Count.{below-more}
 use borrow.Author.Tests.{not-false}
 use denote.Ref.{now}
 use Rattle.igvm_defs.specs.Refusals.{isFault}
 use Rattle.sheet.specs.declared.Cursor.{Cursor}
 use Rattle.sheet.specs.declared.SheetHead.{SheetHead}
 use Rattle.sheet.specs.Head.{headOf, rowCount}
 use Rattle.sheet.specs.Table.{offsetOf}
 use Rattle.sheet.specs.Read.{rowFault}
-use Rattle.sheet.specs.Walk.{cursorAt, pageFits, PagesRead}
-use Rattle.sheet.proofs.ReadLaws.{page-passes}
+use Rattle.sheet.specs.Walk.{cursorAt}
+use Rattle.reading.specs.Pages.{pageFits, PagesRead}
+use Rattle.reading.proofs.RowLaws.{page-passes}
 use Rattle.sheet.proofs.Readable.{offset-next}
-use Rattle.sheet.proofs.past_pages.Statement.{statement}
-use Rattle.sheet.proofs.past_pages.Tie as tie
+use Rattle.reading.proofs.past_pages.Statement.{statement}
+use Rattle.reading.proofs.past_pages.Tie as tie
 
 abbrev Inv-loop : tie.InvT-loop
 Inv-loop s n c₀ c = PagesRead s (c₀ .row) c
