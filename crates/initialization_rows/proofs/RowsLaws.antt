@@ -37,7 +37,7 @@ use Rattle.extents.proofs.ExtentLaws.{near-overlap, covers-more}
 use Rattle.initializations.specs.declared.RelocRegions.{RelocRegions}
 use Rattle.initializations.specs.Record.{anyTablesShare, anyOverlap, HoldsRegions, stored}
 use Rattle.initializations.proofs.RecordLaws.{Room, Lent, lent-stored, holds-none, rows-none, holds-stored, rows-stored, holds-clashes}
-use Rattle.initialization_rows.specs.Row.{InOrder}
+use Rattle.initialization_row.specs.Row.{InOrder}
 use Rattle.platform_rows.specs.Accepted.{HoldsCca}
 use Rattle.initialization_rows.specs.Accepted.{InitializationsAccepted}
 

@@ -1,8 +1,8 @@
 use mathlib.Core.Bool.{false≢true}
-use Rattle.initialization_rows.proofs.RowLaws.{policy-in-order}
+use Rattle.initialization_row.proofs.RowLaws.{policy-in-order}
 use borrow.Author.Needs.{needs}
-use Rattle.initialization_rows.proofs.policy_row.Statement.{statement}
-use Rattle.initialization_rows.proofs.policy_row.Tie as tie
+use Rattle.initialization_row.proofs.policy_row.Statement.{statement}
+use Rattle.initialization_row.proofs.policy_row.Tie as tie
 
 returns : tie.Need-returns
 returns c arch ps new ex holds e = absurd (false≢true e)

@@ -1,6 +1,6 @@
 use borrow.Author.Needs.{needs}
-use Rattle.initialization_rows.proofs.has_room.Statement.{statement}
-use Rattle.initialization_rows.proofs.has_room.Tie as tie
+use Rattle.initialization_row.proofs.has_room.Statement.{statement}
+use Rattle.initialization_row.proofs.has_room.Tie as tie
 
 ends-beyond-requires : tie.Need-ends-beyond-requires
 ends-beyond-requires c κs = search needs

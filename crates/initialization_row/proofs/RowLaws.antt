@@ -32,7 +32,7 @@ use Rattle.rules.specs.Regions.{regionPasses}
 use Rattle.rules.specs.Initializations.{validateRegion, validateTable, withoutCca}
 use Rattle.rules.specs.Accepted.{ownInitializationFault}
 use Rattle.rules.proofs.Acceptance.{without-cca}
-use Rattle.initialization_rows.specs.Row.{InOrder}
+use Rattle.initialization_row.specs.Row.{InOrder}
 use Rattle.platform_rows.specs.Accepted.{HoldsCca}
 
 -- ---- masks

@@ -1,8 +1,8 @@
 use Rattle.rows.proofs.Bools.{not-both}
-use Rattle.initialization_rows.proofs.RowLaws.{region-in-order}
+use Rattle.initialization_row.proofs.RowLaws.{region-in-order}
 use borrow.Author.Needs.{needs}
-use Rattle.initialization_rows.proofs.region_row.Statement.{statement}
-use Rattle.initialization_rows.proofs.region_row.Tie as tie
+use Rattle.initialization_row.proofs.region_row.Statement.{statement}
+use Rattle.initialization_row.proofs.region_row.Tie as tie
 
 without-region-requires : tie.Need-without-region-requires
 without-region-requires c κs = search needs

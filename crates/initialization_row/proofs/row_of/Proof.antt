@@ -1,9 +1,9 @@
 use mathlib.Core.Path.{sym, _∙_}
 use Rattle.rows.proofs.Bools.{not-both}
-use Rattle.initialization_rows.proofs.RowLaws.{guest-in-order}
+use Rattle.initialization_row.proofs.RowLaws.{guest-in-order}
 use borrow.Author.Needs.{needs}
-use Rattle.initialization_rows.proofs.row_of.Statement.{statement}
-use Rattle.initialization_rows.proofs.row_of.Tie as tie
+use Rattle.initialization_row.proofs.row_of.Statement.{statement}
+use Rattle.initialization_row.proofs.row_of.Tie as tie
 
 without-region-requires : tie.Need-without-region-requires
 without-region-requires c κs = search needs
