@@ -1,2 +1,1 @@
-pub mod RowLaws
 pub mod RowsLaws

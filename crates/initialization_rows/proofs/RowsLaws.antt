@@ -31,13 +31,13 @@ use Rattle.rules.specs.Accepted.{ownInitializationFault, regionsClash}
 use Rattle.rules.specs.Verdict.{initializationFaults}
 use Rattle.rules.proofs.RegionLaws.{clash-any}
 use Rattle.rules.proofs.Acceptance.{initialization-says}
+use Rattle.extents.specs.declared.Reach.{Reach}
+use Rattle.extents.specs.Extents.{apartFrom, Covers}
+use Rattle.extents.proofs.ExtentLaws.{near-overlap, covers-more}
 use Rattle.initializations.specs.declared.RelocRegions.{RelocRegions}
-use Rattle.initializations.specs.declared.Reach.{Reach}
 use Rattle.initializations.specs.Record.{anyTablesShare, anyOverlap, HoldsRegions, stored}
-use Rattle.initializations.specs.Extents.{apartFrom, Covers}
 use Rattle.initializations.proofs.RecordLaws.{Room, Lent, lent-stored, holds-none, rows-none, holds-stored, rows-stored, holds-clashes}
-use Rattle.initializations.proofs.ExtentLaws.{near-overlap, covers-more}
-use Rattle.initialization_rows.specs.Row.{InOrder}
+use Rattle.initialization_row.specs.Row.{InOrder}
 use Rattle.platform_rows.specs.Accepted.{HoldsCca}
 use Rattle.initialization_rows.specs.Accepted.{InitializationsAccepted}
 

@@ -1,3 +1,2 @@
 pub mod FaultLaws
 pub mod RecordLaws
-pub mod ExtentLaws

@@ -35,10 +35,10 @@ use Rattle.platforms.proofs.RecordLaws.{holds-count}
 use Rattle.initializations.specs.declared.RelocRegions.{RelocRegions}
 use Rattle.rules.specs.declared.Region.{Region}
 use Rattle.initializations.specs.Record.{HoldsRegions, HoldsClashes, InitializationStepped, stored}
-use Rattle.initializations.specs.declared.Reach.{Reach}
-use Rattle.initializations.specs.Extents.{apartFrom, Covers}
+use Rattle.extents.specs.declared.Reach.{Reach}
+use Rattle.extents.specs.Extents.{apartFrom, Covers}
+use Rattle.extents.proofs.ExtentLaws.{covers-more}
 use Rattle.initializations.proofs.RecordLaws.{holds-stored, holds-clashes}
-use Rattle.initializations.proofs.ExtentLaws.{covers-more}
 use Rattle.rules.specs.Regions.{overlap}
 use Rattle.passes.specs.Passes.{PlatformsPassed, InitializationsPassed, Lengths}
 use Rattle.headers.proofs.HeaderLaws.{sheet-counts}

@@ -1,9 +1,8 @@
 -- A place in a sheet: the row reached, from 0, and where its body starts.
-use Prim.Native.Nat.{ℕ, _+_, _-_, _*_, _<_, _≤_}
-use mathlib.Core.Bool.{Bool, false, _&&_}
+use Prim.Native.Nat.{ℕ, _+_, _*_, _≤_}
+use mathlib.Core.Bool.{false}
 use mathlib.Core.List.{List}
 use mathlib.Core.Path.{_≡_}
-use lib.Dec.{eqb, leb}
 use lib.ListN.{length}
 use Rattle.rows.specs.Below.{anyBelow}
 use Rattle.igvm_defs.specs.Kinds.{kindOf}
@@ -27,18 +26,6 @@ pub record AtRow (s : List ℕ) (c : Cursor) : Type 0 where
 -- no row before row k has a fault of reading
 abbrev pub Passed : List ℕ → ℕ → Type 0
 Passed s k = anyBelow k (λ j. isFault (rowFault s j)) ≡ false
-
--- row k is a page of data long enough for its fields, and its body, which starts at `at`, lies in the sheet
-unfoldable pub pageFits : List ℕ → ℕ → ℕ → Bool
-pageFits s k at = eqb (rowKind s k) 32 && leb 18 (rowLength s k) && leb (rowLength s k) (length s - at)
-
--- the cursor stands at a row from `from` on, its body starts in the sheet, and no row between has a fault of reading
-pub record PagesRead (s : List ℕ) (from : ℕ) (c : Cursor) : Type 0 where
-  pub at : c ≡ cursorAt s (c .row)
-  pub low : from ≤ c .row
-  pub high : c .row ≤ rowCount (headOf s)
-  pub room : c .at ≤ length s
-  pub rows : (k : ℕ) → from ≤ k → k < c .row → isFault (rowFault s k) ≡ false
 
 -- the cursor stands at row k or behind the last row, its body starts in the sheet, and no row before it has a fault of reading
 pub record ReadTo (s : List ℕ) (c : Cursor) : Type 0 where

@@ -75,7 +75,7 @@ pub fn validate_from(s: &[u8], head: SheetHead, from: Cursor, contexts: [u32; 3]
     requires { ⌜ (isFault (startFault limits (now s)) ≡ false) × (head ≡ headOf (now s)) × ReadTo (now s) from × (firstDirective (now s) ≤ from .row → DirectivesAccepted (now s) from contexts) ⌝ }
     ensures { λ r. ⌜ VerdictPassed (now (s .entry)) (r .refusal) (r .contexts) ⌝ }
 {
-    let read = sheet::read_from(s, head, from);
+    let read = reading::read_from(s, head, from);
     if read.is_refusal() {
         return no_contexts(read);
     }

@@ -12,7 +12,7 @@ use Rattle.rows.proofs.Bools.{or-false-parts}
 use Rattle.sheet.specs.Table.{rowKind, bodyOf}
 use Rattle.headers.specs.Headers.{sheetHeaders}
 use Rattle.initializations.specs.Record.{regionsIn}
-use Rattle.initialization_rows.specs.Row.{InOrder}
+use Rattle.initialization_row.specs.Row.{InOrder}
 use Rattle.initialization_rows.proofs.RowsLaws.{Reached, reached-none, row-known, row-order, row-faultless, reached-next}
 use Rattle.initialization_rows.proofs.accept.Statement.{statement}
 use Rattle.initialization_rows.proofs.accept.Tie as tie

@@ -13,11 +13,11 @@ use Rattle.initialization_header.specs.declared.IgvmInitializationHeader.{IgvmI
 use Rattle.rules.specs.declared.Region.{Region}
 use Rattle.rules.specs.Regions.{regionOf}
 use Rattle.rules.specs.Initializations.{validateInitialization, initializationFault}
+use Rattle.extents.specs.declared.Reach.{Reach}
+use Rattle.extents.specs.Extents.{apartFrom, Covers}
+use Rattle.extents.proofs.ExtentLaws.{near-overlap}
 use Rattle.initializations.specs.Record.{anyTablesShare, anyOverlap, policyFault, regionFault, HoldsClashes}
-use Rattle.initializations.specs.declared.Reach.{Reach}
-use Rattle.initializations.specs.Extents.{apartFrom, Covers}
-use Rattle.initializations.proofs.FaultLaws.{row-fault}
-use Rattle.initializations.proofs.ExtentLaws.{near-overlap, region-ends}
+use Rattle.initializations.proofs.FaultLaws.{row-fault, region-ends}
 use Rattle.initializations.proofs.check.Statement.{statement}
 use Rattle.initializations.proofs.check.Tie as tie
 

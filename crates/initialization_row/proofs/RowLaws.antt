@@ -1,0 +1,140 @@
+-- An initialization row whose body passes the tests of its kind has no fault but one that an earlier row may give it.
+-- Assumes nothing.
+use mathlib.Core.Path.{_≡_, refl, sym, _∙_}
+use mathlib.Core.Bool.{Bool, true, false, not, _&&_, false≢true}
+use mathlib.Core.List.{List}
+use mathlib.Core.Option.{none}
+use Prim.Native.Nat.{ℕ, _+_, _/_, _%_, _^_}
+use native.Mathlib.Omega.{arith}
+use lib.Bits.{bitAnd, and-shr, and-step}
+use lib.Dec.{eqb, leb}
+use lib.ListN.{length}
+use borrow.Author.Tests.{eqb-true, eq-eqb, leb-true, ltb-false, not-true}
+use Rattle.rows.specs.Rows.{Rows}
+use Rattle.rows.proofs.Bools.{and-parts}
+use Rattle.le.specs.Le.{byteAt, leAt}
+use Rattle.igvm_defs.specs.declared.Arch.{Arch}
+use Rattle.igvm_defs.specs.declared.Arch.the-variants.{X64, AArch64}
+use Rattle.igvm_defs.specs.declared.Fault.{Fault}
+use Rattle.igvm_defs.specs.Kinds.{kindOf, spans, lengthOk}
+use Rattle.igvm_defs.specs.Refusals.{isFault}
+use Rattle.igvm_defs.specs.Revision.{isX64, isAArch64}
+use Rattle.igvm_defs.proofs.RefusalLaws.{no-fault}
+use Rattle.igvm_defs.proofs.VtlLaws.{vtl-number}
+use Rattle.masks.specs.Masks.{shares, matches, hasBit}
+use Rattle.masks.proofs.MaskLaws.{has-bit}
+use Rattle.addresses.specs.Addresses.{endsBeyond}
+use Rattle.sheet.specs.Read.{codesOk}
+use Rattle.platform_header.specs.declared.IgvmPlatformHeader.{IgvmPlatformHeader}
+use Rattle.initialization_header.specs.Initializations.{ccaPolicyOf, initializationOf}
+use Rattle.rules.specs.declared.Region.{Region}
+use Rattle.rules.specs.Regions.{regionPasses}
+use Rattle.rules.specs.Initializations.{validateRegion, validateTable, withoutCca}
+use Rattle.rules.specs.Accepted.{ownInitializationFault}
+use Rattle.rules.proofs.Acceptance.{without-cca}
+use Rattle.initialization_row.specs.Row.{InOrder}
+use Rattle.platform_rows.specs.Accepted.{HoldsCca}
+
+-- ---- masks
+
+-- a mask that holds every bit of the mask given has its bit k
+pub matches-bit : (given m k : ℕ) → matches given m ≡ true → hasBit given k ≡ true → hasBit m k ≡ true
+unfolding matches
+matches-bit given m k e h =
+    let all : bitAnd m given ≡ given = eqb-true (bitAnd m given) given e in
+    let high : given / 2 ^ k ≡ bitAnd (m / 2 ^ k) (given / 2 ^ k) = rw all at (and-shr m given k) in
+    let step = and-step (m / 2 ^ k) (given / 2 ^ k) in
+    let digit = eqb-true (given / 2 ^ k % 2) 1 (sym (has-bit given k) ∙ h) in
+    has-bit m k ∙ eq-eqb (m / 2 ^ k % 2) 1 (omega arith)
+
+-- ---- by kind
+
+is-aarch64 : (arch : Arch) → isX64 arch ≡ false → isAArch64 arch ≡ true
+is-aarch64 X64 e = sym e
+is-aarch64 AArch64 e = refl
+
+module _ (arch : Arch) (ps : Rows IgvmPlatformHeader) (b : List ℕ) where
+  -- 16
+  pub guest-in-order : (new : Region) → eqb (length b) 12 ≡ true → InOrder arch ps 16 b false new
+  unfolding kindOf spans lengthOk codesOk initializationOf ownInitializationFault regionPasses isFault
+  guest-in-order new long =
+      record { list = refl; long = long; codes = refl; own = refl; cca = refl; region = refl; ends = λ e. absurd (false≢true e) }
+
+  -- 17
+  policy-cca : (cca : ℕ) → HoldsCca cca ps → matches (leAt 4 b 0) cca ≡ true → withoutCca ps (ccaPolicyOf b) ≡ none
+  policy-cca cca holds e =
+      without-cca ps (ccaPolicyOf b) .1 (λ mask zeroes ones f k l h.
+      let same : leAt 4 b 0 ≡ mask = cc in
+      holds k l (matches-bit mask cca k (rw same at e) h))
+
+  pub policy-in-order : (x64 : Bool) (cca mask zeroes ones : ℕ) (shared held : Bool) (new : Region) → x64 ≡ isX64 arch → HoldsCca cca ps → length b ≡ 22
+      → mask ≡ leAt 4 b 0 → zeroes ≡ leAt 8 b 4 → ones ≡ leAt 8 b 12 → shared ≡ shares zeroes ones → held ≡ matches mask cca
+      → (not shared && not x64 && held) ≡ true → InOrder arch ps 17 b false new
+  unfolding kindOf spans lengthOk codesOk initializationOf ownInitializationFault regionPasses isFault
+  policy-in-order x64 cca mask zeroes ones shared held new ex holds long em ez eo es eh e =
+      let (x, matched) = and-parts (not shared && not x64) held e in
+      let (y, aarch64) = and-parts (not shared) (not x64) x in
+      let apart : shares (leAt 8 b 4) (leAt 8 b 12) ≡ false = rw (← ez, ← eo, ← es) (not-true shared y) in
+      let a : isAArch64 arch ≡ true = is-aarch64 arch (sym ex ∙ not-true x64 aarch64) in
+      record {
+        list = refl;
+        long = eq-eqb (length b) 22 long;
+        codes = refl;
+        own = rw (apart, a) no-fault;
+        cca = policy-cca cca holds (rw (← em, ← eh) matched);
+        region = refl;
+        ends = λ f. absurd (false≢true f);
+      }
+
+  -- 18
+  pub region-in-order : (mask alignment gpa size minimum maximum vp : ℕ) (own : Fault) (fault room : Bool) → length b ≡ 48
+      → mask ≡ leAt 4 b 0 → alignment ≡ leAt 8 b 4 → gpa ≡ leAt 8 b 12 → size ≡ leAt 8 b 20 → minimum ≡ leAt 8 b 28 → maximum ≡ leAt 8 b 36 → vp ≡ leAt 2 b 45
+      → own ≡ validateRegion alignment gpa size minimum maximum → fault ≡ isFault own → room ≡ (not (eqb size 0) && not (endsBeyond gpa size))
+      → (leb (byteAt b 47) 2 && leb (byteAt b 44) 7 && not fault && room) ≡ true
+      → InOrder arch ps 18 b true (record { mask = mask; gpa = gpa; size = size; «vp_index» = vp; vtl = byteAt b 47; «page_table» = false })
+  unfolding kindOf spans lengthOk codesOk initializationOf ownInitializationFault regionPasses endsBeyond
+  region-in-order mask alignment gpa size minimum maximum vp own fault room long em ea eg es en ex ev eo ef er e =
+      let (x, roomy) = and-parts (leb (byteAt b 47) 2 && leb (byteAt b 44) 7 && not fault) room e in
+      let (codes, sound) = and-parts (leb (byteAt b 47) 2 && leb (byteAt b 44) 7) (not fault) x in
+      let (level, _) = and-parts (leb (byteAt b 47) 2) (leb (byteAt b 44) 7) codes in
+      let (some-size, below) = and-parts (not (eqb size 0)) (not (endsBeyond gpa size)) (sym er ∙ roomy) in
+      let r17 : isFault (validateRegion (leAt 8 b 4) (leAt 8 b 12) (leAt 8 b 20) (leAt 8 b 28) (leAt 8 b 36)) ≡ false =
+      rw (← ea, ← eg, ← es, ← en, ← ex, ← eo, ← ef) (not-true fault sound) in
+      let r27 : eqb (leAt 8 b 20) 0 ≡ false = rw (← es) (not-true (eqb size 0) some-size) in
+      let r28 : endsBeyond gpa size ≡ false = not-true (endsBeyond gpa size) below in
+      let high : endsBeyond (leAt 8 b 12) (leAt 8 b 20) ≡ false = rw (← eg, ← es) r28 in
+      record {
+        list = refl;
+        long = eq-eqb (length b) 48 long;
+        codes = codes;
+        own = rw (r17, r27, high) no-fault;
+        cca = refl;
+        region = rw (em, eg, es, ev, vtl-number (byteAt b 47) (leb-true (byteAt b 47) 2 level));
+        ends = λ _. ltb-false 18446744073709551615 (gpa + size) r28;
+      }
+
+  -- 19
+  pub table-in-order : (mask gpa size used vp : ℕ) (own : Fault) (fault room : Bool) → length b ≡ 31
+      → mask ≡ leAt 4 b 0 → gpa ≡ leAt 8 b 4 → size ≡ leAt 8 b 12 → used ≡ leAt 8 b 20 → vp ≡ leAt 2 b 28
+      → own ≡ validateTable gpa size used → fault ≡ isFault own → room ≡ (not (eqb size 0) && not (endsBeyond gpa size))
+      → (leb (byteAt b 30) 2 && not fault && room) ≡ true
+      → InOrder arch ps 19 b true (record { mask = mask; gpa = gpa; size = size; «vp_index» = vp; vtl = byteAt b 30; «page_table» = true })
+  unfolding kindOf spans lengthOk codesOk initializationOf ownInitializationFault regionPasses endsBeyond
+  table-in-order mask gpa size used vp own fault room long em eg es eu ev eo ef er e =
+      let (x, roomy) = and-parts (leb (byteAt b 30) 2 && not fault) room e in
+      let (codes, sound) = and-parts (leb (byteAt b 30) 2) (not fault) x in
+      let (some-size, below) = and-parts (not (eqb size 0)) (not (endsBeyond gpa size)) (sym er ∙ roomy) in
+      let r21 : isFault (validateTable (leAt 8 b 4) (leAt 8 b 12) (leAt 8 b 20)) ≡ false =
+      rw (← eg, ← es, ← eu, ← eo, ← ef) (not-true fault sound) in
+      let r27 : eqb (leAt 8 b 12) 0 ≡ false = rw (← es) (not-true (eqb size 0) some-size) in
+      let r28 : endsBeyond gpa size ≡ false = not-true (endsBeyond gpa size) below in
+      let high : endsBeyond (leAt 8 b 4) (leAt 8 b 12) ≡ false = rw (← eg, ← es) r28 in
+      record {
+        list = refl;
+        long = eq-eqb (length b) 31 long;
+        codes = codes;
+        own = rw (r21, r27, high) no-fault;
+        cca = refl;
+        region = rw (em, eg, es, ev, vtl-number (byteAt b 30) (leb-true (byteAt b 30) 2 codes));
+        ends = λ _. ltb-false 18446744073709551615 (gpa + size) r28;
+      }

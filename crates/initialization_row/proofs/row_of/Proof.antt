@@ -1,0 +1,59 @@
+use mathlib.Core.Path.{sym, _∙_}
+use Rattle.rows.proofs.Bools.{not-both}
+use Rattle.initialization_row.proofs.RowLaws.{guest-in-order}
+use borrow.Author.Needs.{needs}
+use Rattle.initialization_row.proofs.row_of.Statement.{statement}
+use Rattle.initialization_row.proofs.row_of.Tie as tie
+
+without-region-requires : tie.Need-without-region-requires
+without-region-requires c κs = search needs
+
+policy-row-requires : tie.Need-policy-row-requires
+policy-row-requires c κs = search needs
+
+without-region-requires-2 : tie.Need-without-region-requires-2
+without-region-requires-2 c κs = search needs
+
+region-row-requires : tie.Need-region-row-requires
+region-row-requires c κs = search needs
+
+table-row-requires : tie.Need-table-row-requires
+table-row-requires c κs = search needs
+
+without-region-requires-3 : tie.Need-without-region-requires-3
+without-region-requires-3 c κs = search needs
+
+returns : tie.Need-returns
+returns c arch ps ex holds e =
+    let r = c .without-region in
+    rw (c .before .match .keys1, r .ensures .1) (guest-in-order arch ps _ (r .result .region) (sym (r .ensures .0) ∙ e))
+
+returns-2 : tie.Need-returns-2
+returns-2 c arch ps ex holds e =
+    let r = c .without-region2 in
+    rw (c .before .before .match .keys2, r .ensures .1) (c .before .policy-row .ensures arch ps (r .result .region) ex holds (sym (r .ensures .0) ∙ e))
+
+returns-3 : tie.Need-returns-3
+returns-3 c arch ps ex holds e = rw (c .before .match .keys3) (c .region-row .ensures arch ps e)
+
+returns-4 : tie.Need-returns-4
+returns-4 c arch ps ex holds e = rw (c .before .match .keys4) (c .table-row .ensures arch ps e)
+
+returns-5 : tie.Need-returns-5
+returns-5 c arch ps ex holds e = not-both (c .without-region3 .ensures .0) e
+
+pub row-of-spec : {M : Type 1} → statement M
+row-of-spec =
+    tie.close
+    (tie.spec
+    without-region-requires
+    policy-row-requires
+    without-region-requires-2
+    region-row-requires
+    table-row-requires
+    without-region-requires-3
+    returns
+    returns-2
+    returns-3
+    returns-4
+    returns-5)
