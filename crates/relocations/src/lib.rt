@@ -34,7 +34,7 @@ fn query(s: &[u8], given: u32) -> Counted
     let mut tables: [bool; 64] = [false; 64];
     let mut rows: [u16; 64] = [0; 64];
     let mut contexts: [u32; 3] = [0; 3];
-    let judged = file::judge(
+    let judged = judge::judge(
         s,
         &mut masks,
         &mut gpas,

@@ -18,7 +18,7 @@ use Rattle.file.proofs.judge_few.Statement.{statement}
 use Rattle.file.proofs.judge_few.Tie as tie
 use Rattle.file.proofs.judge_few.Reads as reads
 use Rattle.file.proofs.judge_few.Lts as lts
-use Rattle.file.proofs.judge_rows.Reads as judge-rows-reads
+use Rattle.judge.proofs.judge_rows.Reads as judge-rows-reads
 
 -- src/lib.rt:251:9
 slice-aggregate-judge-rows : tie.Need-slice-aggregate-judge-rows

@@ -18,7 +18,7 @@ use Rattle.file.proofs.judge_many.Statement.{statement}
 use Rattle.file.proofs.judge_many.Tie as tie
 use Rattle.file.proofs.judge_many.Reads as reads
 use Rattle.file.proofs.judge_many.Lts as lts
-use Rattle.file.proofs.judge_rows.Reads as judge-rows-reads
+use Rattle.judge.proofs.judge_rows.Reads as judge-rows-reads
 
 -- src/lib.rt:277:9
 slice-aggregate-judge-rows : tie.Need-slice-aggregate-judge-rows

@@ -18,13 +18,13 @@ use native.Mathlib.Omega.{arith}
 use mathlib.Core.Bool.{true, false, true≢false, false≢true}
 use mathlib.Core.Path.{_≡_, refl, sym, ap, _∙_}
 use borrow.Author.Needs.{needs}
-use Rattle.file.proofs.judge_rows.Statement.{statement}
-use Rattle.file.proofs.judge_rows.Tie as tie
-use Rattle.file.proofs.judge_rows.Reads as reads
-use Rattle.file.proofs.judge_rows.Lts as lts
+use Rattle.judge.proofs.judge_rows.Statement.{statement}
+use Rattle.judge.proofs.judge_rows.Tie as tie
+use Rattle.judge.proofs.judge_rows.Reads as reads
+use Rattle.judge.proofs.judge_rows.Lts as lts
 use Rattle.acceptance.proofs.accept.Reads as accept-reads
-use Rattle.file.proofs.accepted.Reads as accepted-reads
-use Rattle.file.proofs.judge_from.Reads as judge-from-reads
+use Rattle.judge.proofs.accepted.Reads as accepted-reads
+use Rattle.judge.proofs.judge_from.Reads as judge-from-reads
 use Rattle.igvm_defs.proofs.Arch.is_x64.Reads as is-x64-reads
 use Rattle.igvm_defs.proofs.Fault.is_fault.Reads as is-fault-reads
 use Rattle.igvm_defs.proofs.IgvmRevision.arch.Reads as arch-reads

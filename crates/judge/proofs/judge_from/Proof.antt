@@ -15,13 +15,13 @@ use native.Mathlib.Omega.{arith}
 use mathlib.Core.Bool.{true, false, true≢false, false≢true}
 use mathlib.Core.Path.{_≡_, refl, sym, ap, _∙_}
 use borrow.Author.Needs.{needs}
-use Rattle.file.proofs.judge_from.Statement.{statement}
-use Rattle.file.proofs.judge_from.Tie as tie
-use Rattle.file.proofs.judge_from.Reads as reads
-use Rattle.file.proofs.judge_from.Lts as lts
-use Rattle.file.proofs.accepted.Reads as accepted-reads
-use Rattle.file.proofs.keep_contexts.Reads as keep-contexts-reads
-use Rattle.file.proofs.refused.Reads as refused-reads
+use Rattle.judge.proofs.judge_from.Statement.{statement}
+use Rattle.judge.proofs.judge_from.Tie as tie
+use Rattle.judge.proofs.judge_from.Reads as reads
+use Rattle.judge.proofs.judge_from.Lts as lts
+use Rattle.judge.proofs.accepted.Reads as accepted-reads
+use Rattle.judge.proofs.keep_contexts.Reads as keep-contexts-reads
+use Rattle.judge.proofs.refused.Reads as refused-reads
 use Rattle.validation.proofs.validate_from.Reads as validate-from-reads
 use Rattle.igvm_defs.proofs.Refusal.is_refusal.Reads as is-refusal-reads
 use Rattle.keep.proofs.keep_regions.Reads as keep-regions-reads

@@ -15,12 +15,12 @@ use native.Mathlib.Omega.{arith}
 use mathlib.Core.Bool.{true, false, true≢false, false≢true}
 use mathlib.Core.Path.{_≡_, refl, sym, ap, _∙_}
 use borrow.Author.Needs.{needs}
-use Rattle.file.proofs.judge.Statement.{statement}
-use Rattle.file.proofs.judge.Tie as tie
-use Rattle.file.proofs.judge.Reads as reads
-use Rattle.file.proofs.judge.Lts as lts
-use Rattle.file.proofs.judge_rows.Reads as judge-rows-reads
-use Rattle.file.proofs.refused.Reads as refused-reads
+use Rattle.judge.proofs.judge.Statement.{statement}
+use Rattle.judge.proofs.judge.Tie as tie
+use Rattle.judge.proofs.judge.Reads as reads
+use Rattle.judge.proofs.judge.Lts as lts
+use Rattle.judge.proofs.judge_rows.Reads as judge-rows-reads
+use Rattle.judge.proofs.refused.Reads as refused-reads
 use Rattle.igvm_defs.proofs.Fault.in_row.Reads as in-row-reads
 use Rattle.igvm_defs.proofs.Fault.is_fault.Reads as is-fault-reads
 use Rattle.sheet.proofs.SheetHead.new.Reads as new-reads
