@@ -225,6 +225,7 @@ fn cases() -> Vec<Case> {
         add("triples", rows, triples(rows), Accepted);
     }
     add("contexts", 1024, contexts(1024), Accepted);
+    add("crowded-areas", 1024, areas(1024, 340_573_321), Accepted);
     add("refused", 64, last_overlaps(64), Refused(29));
     add("refused-pages", 1024, last_page_of_no_type(1024), Refused(30));
     add("refused-areas", 1024, last_use_of_no_area(1024), Refused(32));
