@@ -6,22 +6,16 @@ use Rattle.replay.proofs.replay.Statement.{statement}
 use Rattle.replay.proofs.replay.Tie as tie
 
 abbrev Inv-loop : tie.InvT-loop
-Inv-loop s at₀ t5 at = at ≤ length s
+Inv-loop s at₀ at = at ≤ length s
 
 abbrev μ-loop : tie.MeasureT-loop
-μ-loop s at₀ t5 at = length s - at
+μ-loop s at₀ at = length s - at
 
 loop-holds : tie.Need-loop-holds Inv-loop μ-loop
 loop-holds c = search needs
 
 record-length-requires : tie.Need-record-length-requires Inv-loop μ-loop
 record-length-requires c κs = search needs
-
-slice-aggregate-write : tie.Need-slice-aggregate-write Inv-loop μ-loop
-slice-aggregate-write c = search needs
-
-write-requires : tie.Need-write-requires Inv-loop μ-loop
-write-requires c κs = search needs
 
 returns : tie.Need-returns Inv-loop μ-loop
 returns c = search needs
@@ -58,8 +52,6 @@ replay-spec =
     μ-loop
     loop-holds
     record-length-requires
-    slice-aggregate-write
-    write-requires
     returns
     add-end
     sub-replay-record

@@ -2,8 +2,8 @@
 use Prim.Native.Nat.{_-_}
 use lib.ListN.{length}
 use borrow.Author.Needs.{needs}
-use Rattle.replay.proofs.write_bytes.Statement.{statement}
-use Rattle.replay.proofs.write_bytes.Tie as tie
+use Rattle.stored_calls.proofs.write_bytes.Statement.{statement}
+use Rattle.stored_calls.proofs.write_bytes.Tie as tie
 
 abbrev Inv-loop : tie.InvT-loop
 Inv-loop b i₀ t3 i = Unit {0}

@@ -1,0 +1,180 @@
+// Calls that a file stores, one record after another: reading a record, and writing the line of its call. A record is a head of 32 bytes and a sheet.
+ghost use Prim.Native.Nat.{_+_, _≤_};
+ghost use lib.ListN.{length};
+ghost use Rattle.io.specs.Counts.{Counts};
+use libc::STDOUT_FILENO;
+
+// The head of a record.
+pub struct Call {
+    // 0 verdict, 1 relocations, 2 relocation_base_valid, else contains
+    pub code: u8,
+    // 0 document 01, else the Rust
+    pub answered: u8,
+    pub mask: u32,
+    pub region: u64,
+    // base or gpa
+    pub value: u64,
+    // how many bytes are lent
+    pub lent: usize,
+    // how many numbers are asked for: those of the answer, and one past them
+    pub numbers: u32,
+}
+
+// Asks for no number and lends no byte.
+const NO_CALL: Call = Call {
+    code: 0,
+    answered: 0,
+    mask: 0,
+    region: 0,
+    value: 0,
+    lent: 0,
+    numbers: 0,
+};
+
+fn write(text: &[u8]) {
+    io::write_all(STDOUT_FILENO, text);
+}
+
+fn write_number(words: &[u8], n: u64) {
+    write(words);
+    io::print_decimal(STDOUT_FILENO, n);
+}
+
+// A number of the answer.
+pub fn write_found(n: u64) {
+    write_number(b" ", n);
+}
+
+fn write_byte(b: u8) {
+    io::print_hex(STDOUT_FILENO, b as u64, 2);
+}
+
+// Groups of eight bytes.
+fn write_bytes(b: &[u8]) {
+    let mut i = 0;
+    while i < b.len() {
+        if i % 8 == 0 {
+            write(b" ");
+        }
+        write_byte(b[i]);
+        i += 1;
+    }
+}
+
+// What lent bytes hold before a call.
+fn fill(b: &mut [u8]) {
+    let mut i = 0;
+    while i < b.len() {
+        b[i] = ((i % 256 * 37 + 51) % 256) as u8;
+        i += 1;
+    }
+}
+
+fn write_region(call: &[u8], c: Call, value: &[u8]) {
+    write(call);
+    write_number(b" mask ", c.mask as u64);
+    write_number(b" region ", c.region);
+    write_number(value, c.value);
+}
+
+fn write_call(c: Call) {
+    let code = c.code;
+    match code {
+        0 => write(b"verdict"),
+        1 => {
+            write_number(b"relocations mask ", c.mask as u64);
+            write_number(b" lent ", c.lent as u64);
+        }
+        2 => write_region(b"relocation_base_valid", c, b" base "),
+        _ => write_region(b"contains", c, b" gpa "),
+    }
+}
+
+fn write_answered(c: Call) {
+    if c.answered == 0 {
+        write(b"01 ");
+    } else {
+        write(b"rust ");
+    }
+}
+
+fn numbers(code: u8) -> u32 {
+    match code {
+        0 => 7,
+        1 => 11,
+        _ => 5,
+    }
+}
+
+fn call_of(one: &[u8]) -> Call
+    requires { ⌜ 32 ≤ length (now one) ⌝ }
+{
+    let code = one[0];
+    Call {
+        code,
+        answered: one[1],
+        mask: le::u32_at(one, 4),
+        region: le::u64_at(one, 8),
+        value: le::u64_at(one, 16),
+        lent: le::u32_at(one, 24) as usize,
+        numbers: numbers(code),
+    }
+}
+
+// The call of a record, and the line up to its numbers. The first bytes of `space` are what it lends.
+pub fn start(one: &[u8], space: &mut [u8]) -> Call
+    requires { ⌜ 32 ≤ length (now one) ⌝ }
+    ensures { λ r. ⌜ Counts (r .lent) (now (space .exit)) ⌝ }
+{
+    fill(space);
+    let c = call_of(one);
+    write_answered(c);
+    write_call(c);
+    write(b":");
+    if c.lent <= space.len() {
+        return c;
+    }
+    write(b" lends more than 4224 bytes");
+    NO_CALL
+}
+
+// The rest of the line, after its numbers: of a region list the lent bytes.
+pub fn finish(c: Call, lent: &[u8]) {
+    if c.code == 1 {
+        write(b" bytes");
+        write_bytes(lent);
+    }
+    write(b"\n");
+}
+
+// The length of the record that starts at `at`; 0, and a line that says so, if it is not whole.
+pub fn record_length(s: &[u8], at: usize) -> usize
+    requires { ⌜ at ≤ length (now s) ⌝ }
+    ensures { λ r. ⌜ at + r ≤ length (now (s .entry)) ⌝ }
+{
+    let left = s.len() - at;
+    if 32 <= left {
+        let sheet = le::u32_at(s, at + 28) as usize;
+        if sheet <= left - 32 {
+            return 32 + sheet;
+        }
+    }
+    write(b"a record that is not whole\n");
+    0
+}
+
+// Reads the file that the first argument names: how many bytes it has, at most those of `space`.
+pub fn read_file(space: &mut [u8]) -> usize
+    ensures { λ r. ⌜ Counts r (now (space .exit)) ⌝ }
+{
+    let mut name = io::buffer();
+    let n = os::arg(1, &mut name);
+    let fd = os::open_read(&name[..n]);
+    if fd < 0 {
+        write(b"the file can't be opened\n");
+        return 0;
+    }
+    let found = io::read_full(fd, space);
+    libc::close(fd);
+    found
+}
