@@ -136,18 +136,27 @@ pub fn page_table_of(h: IgvmInitializationHeader) -> FoundTable
 
 // ---- over the arrays of an accepted file's regions
 
+fn one(test: bool) -> u32
+    ensures { λ r. ⌜ (r ≡ cond test 1 0) × (r ≤ 1) ⌝ }
+{
+    if test {
+        return 1;
+    }
+    0
+}
+
 // How many of the first n regions are regions of the mask: no page table, and with every bit of the mask.
 pub fn count_in<'a>(masks: &'a [u32], tables: &'a [bool], n: usize, given: u32) -> usize
     requires { ⌜ (n ≤ 64) × (n ≤ length (now masks)) × (n ≤ length (now tables)) ⌝ }
     ensures { λ r. ⌜ (r ≡ countBelow n (λ e. matches given (getD (now (masks .entry)) e 0) && not (getD (now (tables .entry)) e false))) × (r ≤ 64) ⌝ }
 {
-    let mut count = 0;
+    let mut count: u32 = 0;
     let mut i = 0;
     while i < n {
-        count += one_if(masks::matches(given, masks[i]) & !tables[i], 1) as usize;
+        count += one(masks::matches(given, masks[i]) & !tables[i]);
         i += 1;
     }
-    count
+    count as usize
 }
 
 // ---- over the initialization rows of a readable sheet

@@ -35,11 +35,11 @@ shared-slice-read-matches c = search needs
 matches-requires : tie.Need-matches-requires Inv-loop μ-loop
 matches-requires c κs = search needs
 
-shared-slice-read-one-if : tie.Need-shared-slice-read-one-if Inv-loop μ-loop
-shared-slice-read-one-if c = search needs
+shared-slice-read-one : tie.Need-shared-slice-read-one Inv-loop μ-loop
+shared-slice-read-one c = search needs
 
-one-if-requires : tie.Need-one-if-requires Inv-loop μ-loop
-one-if-requires c κs = search needs
+one-requires : tie.Need-one-requires Inv-loop μ-loop
+one-requires c κs = search needs
 
 add-count : tie.Need-add-count Inv-loop μ-loop
 add-count c =
@@ -55,6 +55,12 @@ loop-less c = search needs
 
 loop-again : tie.Need-loop-again Inv-loop μ-loop
 loop-again c = (search needs, rw (count-more, ← c .before .before .before .before .before .loop .inv .1) (cc))
+
+cast-result : tie.Need-cast-result Inv-loop μ-loop
+cast-result c =
+    let a = c .before .before .before .before .args in
+    let l = c .before .loop in
+    omega (arith, count-le (l .i) (ofMask (a .given) (now (a .masks)) (now (a .tables))))
 
 returns : tie.Need-returns Inv-loop μ-loop
 returns c =
@@ -73,10 +79,11 @@ count-in-spec =
     mul-matches
     shared-slice-read-matches
     matches-requires
-    shared-slice-read-one-if
-    one-if-requires
+    shared-slice-read-one
+    one-requires
     add-count
     add-i
     loop-less
     loop-again
+    cast-result
     returns)
