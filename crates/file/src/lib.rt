@@ -21,7 +21,7 @@ fn judge_few(s: &[u8], head: SheetHead) -> Verdict
     let mut tables: [bool; 4] = [false; 4];
     let mut rows: [u16; 4] = [0; 4];
     let mut contexts: [u32; 3] = [0; 3];
-    judge::judge_rows(
+    judge::judge(
         s,
         head,
         &mut masks,
@@ -47,7 +47,7 @@ fn judge_many(s: &[u8], head: SheetHead) -> Verdict
     let mut tables: [bool; 64] = [false; 64];
     let mut rows: [u16; 64] = [0; 64];
     let mut contexts: [u32; 3] = [0; 3];
-    judge::judge_rows(
+    judge::judge(
         s,
         head,
         &mut masks,

@@ -1,4 +1,4 @@
-// The verdict on any byte string, with what was found of an accepted file kept in lent arrays: its regions, each with its row, and the masks of its contexts.
+// The verdict on a sheet whose head and table are in order, with what was found of an accepted file kept in lent arrays: its regions, each with its row, and the masks of its contexts.
 ghost use mathlib.Core.Path.{_≡_};
 ghost use mathlib.Core.Bool.{false};
 ghost use mathlib.Core.List.{[], _∷_};
@@ -93,8 +93,8 @@ fn judge_from<'a>(
     }
 }
 
-// A sheet whose head and table are in order.
-pub fn judge_rows<'a>(
+// The verdict on a sheet whose head and table are in order. Of an accepted file the arrays get the regions, each with its row, and the masks those of the contexts.
+pub fn judge<'a>(
     s: &'a [u8],
     head: SheetHead,
     masks: &'a mut [u32],
@@ -141,44 +141,6 @@ pub fn judge_rows<'a>(
         s,
         head,
         r.at,
-        masks,
-        gpas,
-        sizes,
-        vps,
-        vtls,
-        tables,
-        rows,
-        contexts,
-    )
-}
-
-// The verdict on any byte string. Of an accepted file the arrays get the regions, each with its row, and the masks those of the contexts.
-pub fn judge<'a>(
-    s: &'a [u8],
-    masks: &'a mut [u32],
-    gpas: &'a mut [u64],
-    sizes: &'a mut [u64],
-    vps: &'a mut [u16],
-    vtls: &'a mut [u8],
-    tables: &'a mut [bool],
-    rows: &'a mut [u16],
-    contexts: &mut [u32; 3],
-) -> Judged
-    requires { ⌜ (64 ≤ length (now masks)) × (64 ≤ length (now gpas)) × (64 ≤ length (now sizes)) × (64 ≤ length (now vps)) × (64 ≤ length (now vtls)) × (64 ≤ length (now tables)) × (64 ≤ length (now rows)) ⌝ }
-    requires { ⌜ now contexts ≡ (0 ∷ 0 ∷ 0 ∷ []) ⌝ }
-    ensures { λ r. ⌜ r .verdict ≡ verdictOf limits (now (s .entry)) ⌝ }
-    ensures { λ r. ⌜ (isRefusal (verdictRefusal limits (now (s .entry))) ≡ false → Kept (now (s .entry)) (regionsIn (now (masks .exit)) (now (gpas .exit)) (now (sizes .exit)) (now (vps .exit)) (now (vtls .exit)) (now (tables .exit)) (r .count)) (now (rows .exit)) (now (contexts .exit))) ⌝ }
-{
-    let start = sheet::start_fault(s);
-    if start.is_fault() {
-        return Judged {
-            verdict: refused(start.in_row(0)),
-            count: 0,
-        };
-    }
-    judge_rows(
-        s,
-        SheetHead::new(s),
         masks,
         gpas,
         sizes,

@@ -26,6 +26,13 @@ fn query(s: &[u8], given: u32) -> Counted
     ensures { λ r. ⌜ (r .refusal ≡ queryRefusal limits (now (s .entry)) given) × (r .count ≤ 64) ⌝ }
     ensures { λ r. ⌜ (isRefusal (r .refusal) ≡ false → r .count ≡ regionCount (sheetInitializations (now (s .entry))) given) ⌝ }
 {
+    let start = sheet::start_fault(s);
+    if start.is_fault() {
+        return Counted {
+            refusal: start.in_row(0),
+            count: 0,
+        };
+    }
     let mut masks: [u32; 64] = [0; 64];
     let mut gpas: [u64; 64] = [0; 64];
     let mut sizes: [u64; 64] = [0; 64];
@@ -36,6 +43,7 @@ fn query(s: &[u8], given: u32) -> Counted
     let mut contexts: [u32; 3] = [0; 3];
     let judged = judge::judge(
         s,
+        SheetHead::new(s),
         &mut masks,
         &mut gpas,
         &mut sizes,
