@@ -1,346 +1,544 @@
--- Laws of the table of areas: where an area's slot is, what a store into its slot keeps, and the empty table.
+-- Laws of the table of areas: where an area's place is, what a new node changes, and the empty table.
 -- Assumes nothing.
-use Prim.Native.Nat.{ℕ, zero, suc, _+_, _-_, _≤_, _<_}
+use Prim.Native.Nat.{ℕ, zero, suc, _+_, _*_, _-_, _/_, _%_, _≤_, _<_}
 use native.Mathlib.Decide.{decLt, ℕ-discrete}
 use native.Mathlib.Omega.{arith}
-use mathlib.Core.Bool.{true, false, cond}
+use mathlib.Core.Bool.{Bool, true, false, cond}
 use mathlib.Core.List.{List}
 use mathlib.Core.Logic.{_≢_, _⊎_, inl, inr}
-use mathlib.Core.Option.{Option, none, some}
 use mathlib.Core.Path.{_≡_, refl, sym, ap, _∙_}
 use lib.Dec.{eqb}
 use lib.ListN.{length, getD, set, replicate, length-set, length-replicate}
 use lib.Seq.{getD-set-same, getD-set-other}
 use borrow.Author.Tests.{lt-ltb, le-ltb, eq-eqb, ne-eqb, eqb-true}
-use Rattle.rows.specs.Below.{firstBelow}
-use Rattle.rows.proofs.BelowLaws.{first-none, first-at, first-says}
 use Rattle.rows.proofs.Bools.{not-both, or-left, or-right, or-cases, or-both-false}
-use Rattle.area_table.specs.AreaTable.{firstSlot, mayHold, slotAt, slotOf, stateAt, stateIn, HoldsAreas}
+use Rattle.area_table.specs.AreaTable.{root, ends, child, findFrom, placeOf, stateAt, stateIn, HoldsAreas}
+
+root-small : (x : ℕ) → root x < 1024
+unfolding root
+root-small x = omega arith
 
 -- ---- what is known of an area
 
-first-small : (x : ℕ) → firstSlot x < 1024
-unfolding firstSlot
-first-small x = omega arith
+module _ (links states : List ℕ) (p : ℕ) where
+  pub state-none : 3074 ≤ p → stateAt links states p ≡ 3
+  unfolding stateAt
+  state-none l = rw (le-ltb p 3074 l)
 
-pub state-at-slot : (states : List ℕ) (j : ℕ) → j < 1088 → stateAt states j ≡ getD states j 0
-unfolding stateAt
-state-at-slot states j l = rw (lt-ltb j 1088 l)
+  pub state-node : p < 3074 → getD links p 0 ≢ 0 → stateAt links states p ≡ getD states (getD links p 0) 0
+  unfolding stateAt
+  state-node l n = rw (lt-ltb p 3074 l, ne-eqb _ _ n)
 
-pub state-at-none : (states : List ℕ) (j : ℕ) → 1088 ≤ j → stateAt states j ≡ 3
-unfolding stateAt
-state-at-none states j l = rw (le-ltb j 1088 l)
+  pub state-empty : p < 3074 → getD links p 0 ≡ 0 → getD links 1024 0 < 1024 → stateAt links states p ≡ 0
+  unfolding stateAt
+  state-empty l e c = rw (lt-ltb p 3074 l, eq-eqb _ _ e, lt-ltb (getD links 1024 0) 1024 c)
 
-pub state-few : (few areas states : List ℕ) (x : ℕ) → x < 1024 → stateIn few areas states x ≡ getD few x 0
-unfolding stateIn
-state-few few areas states x l = rw (lt-ltb x 1024 l)
+  pub state-full : p < 3074 → getD links p 0 ≡ 0 → 1024 ≤ getD links 1024 0 → stateAt links states p ≡ 3
+  unfolding stateAt
+  state-full l e c = rw (lt-ltb p 3074 l, eq-eqb _ _ e, le-ltb (getD links 1024 0) 1024 c)
 
-pub state-large : (few areas states : List ℕ) (x : ℕ) → 1024 ≤ x → stateIn few areas states x ≡ stateAt states (slotOf areas states x)
-unfolding stateIn
-state-large few areas states x l = rw (le-ltb x 1024 l)
-
--- ---- a slot that is empty, or has the area
-
-module _ (areas states : List ℕ) (x j : ℕ) where
-  may-empty : getD states j 0 ≡ 0 → mayHold areas states x j ≡ true
-  unfolding mayHold
-  may-empty e = or-left (eqb (getD states j 0) 0) (eqb (getD areas j 0) x) (eq-eqb _ _ e)
-
-  may-has : getD areas j 0 ≡ x → mayHold areas states x j ≡ true
-  unfolding mayHold
-  may-has e = or-right (eqb (getD states j 0) 0) (eqb (getD areas j 0) x) (eq-eqb _ _ e)
-
-  may-not : getD states j 0 ≢ 0 → getD areas j 0 ≢ x → mayHold areas states x j ≡ false
-  unfolding mayHold
-  may-not n m = or-both-false (eqb (getD states j 0) 0) (eqb (getD areas j 0) x) (ne-eqb _ _ n) (ne-eqb _ _ m)
-
-  -- a slot that is not empty has it
-  may-says : mayHold areas states x j ≡ true → getD states j 0 ≢ 0 → getD areas j 0 ≡ x
-  unfolding mayHold
-  may-says h n = go (or-cases (eqb (getD states j 0) 0) (eqb (getD areas j 0) x) h)
+  -- where the table can tell, the area has a place
+  place-told : stateAt links states p ≢ 3 → p < 3074
+  place-told n = go (decLt p 3074)
     where
-      go : (eqb (getD states j 0) 0 ≡ true) ⊎ (eqb (getD areas j 0) x ≡ true) → getD areas j 0 ≡ x
+      go : Dec (p < 3074) → p < 3074
+      go (yes l) = l
+      go (no l) = absurd (n (state-none (omega arith)))
+
+  -- where that is empty, another node can be made
+  room-told : stateAt links states p ≢ 3 → getD links p 0 ≡ 0 → getD links 1024 0 < 1024
+  room-told n e = go (decLt (getD links 1024 0) 1024)
+    where
+      go : Dec (getD links 1024 0 < 1024) → getD links 1024 0 < 1024
+      go (yes l) = l
+      go (no l) = absurd (n (state-full (place-told n) e (omega arith)))
+
+  -- and nothing is known
+  empty-told : stateAt links states p ≢ 3 → getD links p 0 ≡ 0 → stateAt links states p ≡ 0
+  empty-told n e = state-empty (place-told n) e (room-told n e)
+
+module _ (few links areas states : List ℕ) (x : ℕ) where
+  pub state-few : x < 1024 → stateIn few links areas states x ≡ getD few x 0
+  unfolding stateIn
+  state-few l = rw (lt-ltb x 1024 l)
+
+  pub state-large : 1024 ≤ x → stateIn few links areas states x ≡ stateAt links states (placeOf links areas x)
+  unfolding stateIn
+  state-large l = rw (le-ltb x 1024 l)
+
+-- ---- where a walk ends
+
+module _ (links areas : List ℕ) (x p : ℕ) where
+  ends-empty : getD links p 0 ≡ 0 → ends links areas x p ≡ true
+  unfolding ends
+  ends-empty e = or-left (eqb (getD links p 0) 0) (eqb (getD areas (getD links p 0) 0) x) (eq-eqb _ _ e)
+
+  ends-own : getD areas (getD links p 0) 0 ≡ x → ends links areas x p ≡ true
+  unfolding ends
+  ends-own e = or-right (eqb (getD links p 0) 0) (eqb (getD areas (getD links p 0) 0) x) (eq-eqb _ _ e)
+
+  ends-not : getD links p 0 ≢ 0 → getD areas (getD links p 0) 0 ≢ x → ends links areas x p ≡ false
+  unfolding ends
+  ends-not n m = or-both-false (eqb (getD links p 0) 0) (eqb (getD areas (getD links p 0) 0) x) (ne-eqb _ _ n) (ne-eqb _ _ m)
+
+  -- at a node, it is the area's
+  ends-says : ends links areas x p ≡ true → getD links p 0 ≢ 0 → getD areas (getD links p 0) 0 ≡ x
+  unfolding ends
+  ends-says h n = go (or-cases (eqb (getD links p 0) 0) (eqb (getD areas (getD links p 0) 0) x) h)
+    where
+      go : (eqb (getD links p 0) 0 ≡ true) ⊎ (eqb (getD areas (getD links p 0) 0) x ≡ true) → getD areas (getD links p 0) 0 ≡ x
       go (inl e) = absurd (n (eqb-true _ _ e))
       go (inr e) = eqb-true _ _ e
 
--- ---- the slot of an area
+module _ (links areas : List ℕ) (x : ℕ) where
+  pub find-out : (n rest p : ℕ) → 1025 ≤ getD links p 0 → findFrom links areas x n rest p ≡ 3074
+  unfolding findFrom
+  find-out zero rest p l = refl
+  find-out (suc n) rest p l = rw (le-ltb (getD links p 0) 1025 l)
 
--- slot j is the first of the area's 64 slots that is empty or has the area
-pub record SlotAt (areas states : List ℕ) (x j : ℕ) : Type 0 where
-  pub from : firstSlot x ≤ j
-  pub near : j < firstSlot x + 64
-  pub may : mayHold areas states x j ≡ true
-  pub past : (k : ℕ) → k < j → firstSlot x ≤ k → mayHold areas states x k ≡ false
+  pub find-end : (n rest p : ℕ) → 0 < n → getD links p 0 < 1025 → ends links areas x p ≡ true → findFrom links areas x n rest p ≡ p
+  unfolding findFrom
+  find-end zero rest p z l e = absurd (omega arith)
+  find-end (suc n) rest p z l e = rw (lt-ltb (getD links p 0) 1025 l, e)
 
-module _ (areas states : List ℕ) (x : ℕ) where
-  pub slot-is : (j : ℕ) → SlotAt areas states x j → slotOf areas states x ≡ j
-  unfolding slotOf
-  slot-is j s =
-      let d = j - firstSlot x in
-      let e : firstSlot x + d ≡ j = omega arith in
-      ap (slotAt x)
-      (first-at 64 (λ k. mayHold areas states x (firstSlot x + k)) d (omega arith) (λ k l. s .past (firstSlot x + k) (omega arith) (omega arith)) (rw e (s .may)))
-      ∙ e
+  find-step : (n rest p : ℕ) → getD links p 0 < 1025 → ends links areas x p ≡ false
+      → findFrom links areas x (suc n) rest p ≡ findFrom links areas x n (rest / 2) (child links rest p)
+  unfolding findFrom
+  find-step n rest p l e = rw (lt-ltb (getD links p 0) 1025 l, e)
 
-  pub slot-none : ((k : ℕ) → k < firstSlot x + 64 → firstSlot x ≤ k → mayHold areas states x k ≡ false) → slotOf areas states x ≡ 1088
-  unfolding slotOf
-  slot-none h =
-      ap (slotAt x) (first-none 64 (λ k. mayHold areas states x (firstSlot x + k)) .1 (λ k l. h (firstSlot x + k) (omega arith) (omega arith)))
+  pub find-on : (n rest p : ℕ) → 0 < n → getD links p 0 < 1025 → ends links areas x p ≡ false
+      → findFrom links areas x n rest p ≡ findFrom links areas x (n - 1) (rest / 2) (child links rest p)
+  find-on zero rest p z l e = absurd (omega arith)
+  find-on (suc n) rest p z l e = let q : suc n - 1 ≡ n = omega arith in rw q (find-step n rest p l e)
 
-  pub slot-there : slotOf areas states x < 1088 → SlotAt areas states x (slotOf areas states x)
-  unfolding slotOf
-  slot-there l = go (firstBelow 64 (λ k. mayHold areas states x (firstSlot x + k))) refl
+  pub find-zero : (rest p : ℕ) → findFrom links areas x 0 rest p ≡ 3074
+  unfolding findFrom
+  find-zero rest p = refl
+
+  -- the place that is found is empty, or its node is the area's
+  find-says : (n rest p : ℕ) → findFrom links areas x n rest p < 3074
+      → (getD links (findFrom links areas x n rest p) 0 < 1025) × (ends links areas x (findFrom links areas x n rest p) ≡ true)
+  find-says zero rest p l = absurd (omega (arith, find-zero rest p))
+  find-says (suc n) rest p l = go (decLt (getD links p 0) 1025) (find-says n (rest / 2) (child links rest p)) (ends links areas x p) refl
     where
-      go : (o : Option ℕ) → firstBelow 64 (λ k. mayHold areas states x (firstSlot x + k)) ≡ o → SlotAt areas states x (slotOf areas states x)
-      go none e = let f = ap (slotAt x) e in absurd (omega arith)
-      go (some d) e =
-          let (n, t, h) = first-says 64 (λ k. mayHold areas states x (firstSlot x + k)) d e in
-          rw e
-          (record {
-            from = omega arith;
-            near = omega arith;
-            may = t;
-            past = λ k m f. let q : firstSlot x + (k - firstSlot x) ≡ k = omega arith in rw q at (h (k - firstSlot x) (omega arith));
-          })
+      go : Dec (getD links p 0 < 1025)
+          → (findFrom links areas x n (rest / 2) (child links rest p) < 3074
+          → (getD links (findFrom links areas x n (rest / 2) (child links rest p)) 0 < 1025) × (ends links areas x (findFrom links areas x n (rest / 2) (child links rest p)) ≡ true))
+          → (b : Bool) → ends links areas x p ≡ b
+          → (getD links (findFrom links areas x (suc n) rest p) 0 < 1025) × (ends links areas x (findFrom links areas x (suc n) rest p) ≡ true)
+      go (no h) on b e = absurd (omega (arith, find-out (suc n) rest p (omega arith)))
+      go (yes h) on true e = rw (find-end (suc n) rest p (omega arith) h e) (h, e)
+      go (yes h) on false e = let q = find-step n rest p h e in rw q (on (rw q at l))
 
-  -- where one of its slots is empty or has it, an area has a slot
-  slot-before : (j : ℕ) → firstSlot x ≤ j → j < firstSlot x + 64 → mayHold areas states x j ≡ true → slotOf areas states x < 1088
-  unfolding slotOf
-  slot-before j f n e = go (firstBelow 64 (λ k. mayHold areas states x (firstSlot x + k))) refl
+  place-says : placeOf links areas x < 3074 → (getD links (placeOf links areas x) 0 < 1025) × (ends links areas x (placeOf links areas x) ≡ true)
+  unfolding placeOf
+  place-says = find-says 33 x (root x)
+
+  -- from an empty place no walk goes on
+  find-stays : (n rest p : ℕ) → getD links p 0 ≡ 0 → findFrom links areas x n rest p < 3074 → getD links (findFrom links areas x n rest p) 0 ≡ 0
+  find-stays zero rest p e l = absurd (omega (arith, find-zero rest p))
+  find-stays (suc n) rest p e l = rw (find-end (suc n) rest p (omega arith) (omega arith) (ends-empty links areas x p e)) e
+
+  place-at-root : getD links (root x) 0 ≡ 0 → placeOf links areas x ≡ root x
+  unfolding placeOf
+  place-at-root e = find-end 33 x (root x) (omega arith) (omega arith) (ends-empty links areas x (root x) e)
+
+-- ---- the places that walks come by
+
+-- a root, or a child of one of the first c nodes
+record Child (c p : ℕ) : Type 0 where
+  other : p ≢ 1024
+  low : p < 1026 + 2 * c
+
+module _ (links areas : List ℕ) (c : ℕ) (counted : (p : ℕ) → getD links p 0 ≤ c) (x : ℕ) where
+  child-on : (rest p : ℕ) → ends links areas x p ≡ false → Child c (child links rest p)
+  unfolding child
+  child-on rest p e =
+      let k = counted p in
+      let z : getD links p 0 ≢ 0 = λ q. not-both e (ends-empty links areas x p q) in
+      record { other = λ q. z (omega arith); low = omega arith }
+
+  find-child : (n rest p : ℕ) → Child c p → findFrom links areas x n rest p < 3074 → Child c (findFrom links areas x n rest p)
+  find-child zero rest p h l = absurd (omega (arith, find-zero links areas x rest p))
+  find-child (suc n) rest p h l = go (decLt (getD links p 0) 1025) (find-child n (rest / 2) (child links rest p)) (ends links areas x p) refl
     where
-      go : (o : Option ℕ) → firstBelow 64 (λ k. mayHold areas states x (firstSlot x + k)) ≡ o → slotOf areas states x < 1088
-      go none q =
-          let d = j - firstSlot x in
-          let r : firstSlot x + d ≡ j = omega arith in
-          not-both (first-none 64 (λ k. mayHold areas states x (firstSlot x + k)) .0 q d (omega arith)) (rw r e)
-      go (some d) q =
-          let l = first-says 64 (λ k. mayHold areas states x (firstSlot x + k)) d q .0 in
-          rw q (omega (arith, first-small x))
+      go : Dec (getD links p 0 < 1025)
+          → (Child c (child links rest p) → findFrom links areas x n (rest / 2) (child links rest p) < 3074 → Child c (findFrom links areas x n (rest / 2) (child links rest p)))
+          → (b : Bool) → ends links areas x p ≡ b → Child c (findFrom links areas x (suc n) rest p)
+      go (no m) on b e = absurd (omega (arith, find-out links areas x (suc n) rest p (omega arith)))
+      go (yes m) on true e = rw (find-end links areas x (suc n) rest p (omega arith) m e) h
+      go (yes m) on false e = let q = find-step links areas x n rest p m e in rw q (on (child-on rest p e) (rw q at l))
 
--- ---- a store into an area's slot
+  root-child : Child c (root x)
+  root-child = record { other = λ q. omega (arith, root-small x); low = omega (arith, root-small x) }
 
--- slot j got area a and a state, and the other slots are as they were
-record Stored (areas states areas′ states′ : List ℕ) (j a : ℕ) : Type 0 where
-  area : getD areas′ j 0 ≡ a
-  state : getD states′ j 0 ≢ 0
-  areas-other : (i : ℕ) → i ≢ j → getD areas′ i 0 ≡ getD areas i 0
-  states-other : (i : ℕ) → i ≢ j → getD states′ i 0 ≡ getD states i 0
+  place-child : placeOf links areas x < 3074 → Child c (placeOf links areas x)
+  unfolding placeOf
+  place-child = find-child 33 x (root x) root-child
 
-module _ (areas states areas′ states′ : List ℕ) (j a : ℕ) (slot : SlotAt areas states a j) (stored : Stored areas states areas′ states′ j a)
-    (placed : (i : ℕ) → i < 1088 → getD states i 0 ≢ 0 → slotOf areas states (getD areas i 0) ≡ i) where
-  may-other : (x i : ℕ) → i ≢ j → mayHold areas′ states′ x i ≡ mayHold areas states x i
-  unfolding mayHold
-  may-other x i n = rw (stored .areas-other i n, stored .states-other i n)
+-- ---- a new node
 
-  -- no other area may take the slot
-  taken : (x : ℕ) → x ≢ a → mayHold areas′ states′ x j ≡ false
-  taken x n = may-not areas′ states′ x j (stored .state) (λ h. n (sym h ∙ stored .area))
+-- the empty place p got a new node with area a, and nothing else changed but the number of nodes
+record Grown (links areas links′ areas′ : List ℕ) (c p a : ℕ) : Type 0 where
+  room : c < 1024
+  counted : (i : ℕ) → getD links i 0 ≤ c
+  fresh : (i : ℕ) → 1026 + 2 * c ≤ i → getD links i 0 ≡ 0
+  empty : getD links p 0 ≡ 0
+  place : Child c p
+  link : getD links′ p 0 ≡ c + 1
+  area : getD areas′ (c + 1) 0 ≡ a
+  links-other : (i : ℕ) → i ≢ p → i ≢ 1024 → getD links′ i 0 ≡ getD links i 0
+  areas-other : (k : ℕ) → k ≢ c + 1 → getD areas′ k 0 ≡ getD areas k 0
 
-  -- a slot that another area passed by is passed by still
-  passed : (x i : ℕ) → x ≢ a → mayHold areas states x i ≡ false → mayHold areas′ states′ x i ≡ false
-  passed x i n h = go (ℕ-discrete i j)
+-- a walk for area x that ended at place r ends at place r′ now: at the same one, or it met the new node
+data Walk (links′ : List ℕ) (p a x r r′ : ℕ) : Type 0 where
+  same : r′ ≡ r → r ≢ p → Walk links′ p a x r r′
+  own : x ≡ a → r ≡ p → r′ ≡ p → Walk links′ p a x r r′
+  past : x ≢ a → r ≡ p → (r′ < 3074 → getD links′ r′ 0 ≡ 0) → Walk links′ p a x r r′
+
+module _ (links areas links′ areas′ : List ℕ) (c p a : ℕ) (g : Grown links areas links′ areas′ c p a) (x : ℕ) where
+  ends-other : (q : ℕ) → q ≢ p → q ≢ 1024 → ends links′ areas′ x q ≡ ends links areas x q
+  unfolding ends
+  ends-other q n m =
+      let k = g .counted q in
+      rw (g .links-other q n m, g .areas-other (getD links q 0) (λ e. omega arith))
+
+  child-other : (rest q : ℕ) → q ≢ p → q ≢ 1024 → child links′ rest q ≡ child links rest q
+  unfolding child
+  child-other rest q n m = rw (g .links-other q n m)
+
+  -- the children of the new node are empty
+  child-new : (rest : ℕ) → getD links′ (child links′ rest p) 0 ≡ 0
+  unfolding child
+  child-new rest =
+      let l = g .place .low in
+      let s = 1024 + 2 * (c + 1) + rest % 2 in
+      rw (g .link) (g .links-other s (λ e. omega arith) (λ e. omega arith) ∙ g .fresh s (omega arith))
+
+  walk-new : (n rest : ℕ) → Walk links′ p a x (findFrom links areas x (suc n) rest p) (findFrom links′ areas′ x (suc n) rest p)
+  walk-new n rest = go (ℕ-discrete x a)
     where
-      go : Dec (i ≡ j) → mayHold areas′ states′ x i ≡ false
-      go (yes e) = rw e (taken x n)
-      go (no m) = may-other x i m ∙ h
+      link : getD links′ p 0 < 1025
+      link = omega (arith, g .link, g .room)
 
-  -- another area with another slot keeps it
-  kept : (x i : ℕ) → x ≢ a → i ≢ j → SlotAt areas states x i → SlotAt areas′ states′ x i
-  kept x i n m s =
-      record {
-        from = s .from;
-        near = s .near;
-        may = may-other x i m ∙ s .may;
-        past = λ k l f. passed x k n (s .past k l f);
-      }
+      here : getD areas′ (getD links′ p 0) 0 ≡ a
+      here = rw (g .link) (g .area)
 
-  -- the area has the slot
-  given : SlotAt areas′ states′ a j
-  given =
-      record {
-        from = slot .from;
-        near = slot .near;
-        may = may-has areas′ states′ a j (stored .area);
-        past = λ k l f. may-other a k (λ e. omega arith) ∙ slot .past k l f;
-      }
+      before : findFrom links areas x (suc n) rest p ≡ p
+      before = find-end links areas x (suc n) rest p (omega arith) (omega (arith, g .empty)) (ends-empty links areas x p (g .empty))
 
-  -- an area that stands in a slot is found there
-  placed-after : (i : ℕ) → i < 1088 → getD states′ i 0 ≢ 0 → slotOf areas′ states′ (getD areas′ i 0) ≡ i
-  placed-after i l n = go (ℕ-discrete i j)
-    where
-      go : Dec (i ≡ j) → slotOf areas′ states′ (getD areas′ i 0) ≡ i
-      go (yes e) = rw (e, stored .area) (slot-is areas′ states′ a j given)
+      go : Dec (x ≡ a) → Walk links′ p a x (findFrom links areas x (suc n) rest p) (findFrom links′ areas′ x (suc n) rest p)
+      go (yes e) = own e before (find-end links′ areas′ x (suc n) rest p (omega arith) link (ends-own links′ areas′ x p (here ∙ sym e)))
       go (no m) =
-          let x = getD areas i 0 in
-          let p = placed i l (λ h. n (stored .states-other i m ∙ h)) in
-          let s : SlotAt areas states x i = rw p at (slot-there areas states x (omega arith)) in
-          let other : x ≢ a = λ h. m (sym p ∙ ap (slotOf areas states) h ∙ slot-is areas states a j slot) in
-          rw (stored .areas-other i m) (slot-is areas′ states′ x i (kept x i other m s))
+          let f = ends-not links′ areas′ x p (λ e. omega (arith, g .link)) (λ e. m (sym e ∙ here)) in
+          past m before (rw (find-step links′ areas′ x n rest p link f) (find-stays links′ areas′ x n (rest / 2) (child links′ rest p) (child-new rest)))
 
-  -- where another area's new slot is empty, its old one was
-  empty-before : (x i k : ℕ) → x ≢ a → SlotAt areas′ states′ x i → getD states i 0 ≡ 0 → SlotAt areas states x k → getD states k 0 ≡ 0
-  empty-before x i k n s z t = go (ℕ-discrete (getD states k 0) 0)
+  walk : (n rest q : ℕ) → Child c q → Walk links′ p a x (findFrom links areas x n rest q) (findFrom links′ areas′ x n rest q)
+  walk zero rest q h =
+      let l = g .place .low in
+      rw (find-zero links areas x rest q, find-zero links′ areas′ x rest q) (same refl (λ e. omega (arith, g .room)))
+  walk (suc n) rest q h = go (ℕ-discrete q p) (walk n (rest / 2) (child links rest q)) (ends links areas x q) refl
     where
-      go : Dec (getD states k 0 ≡ 0) → getD states k 0 ≡ 0
-      go (yes e) = e
+      link : getD links q 0 < 1025
+      link = omega (arith, g .counted q, g .room)
+
+      go : Dec (q ≡ p)
+          → (Child c (child links rest q)
+          → Walk links′ p a x (findFrom links areas x n (rest / 2) (child links rest q)) (findFrom links′ areas′ x n (rest / 2) (child links rest q)))
+          → (b : Bool) → ends links areas x q ≡ b → Walk links′ p a x (findFrom links areas x (suc n) rest q) (findFrom links′ areas′ x (suc n) rest q)
+      go (yes e) on b t = rw e (walk-new n rest)
+      go (no m) on true t =
+          let link′ : getD links′ q 0 < 1025 = rw (g .links-other q m (h .other)) link in
+          let before = find-end links areas x (suc n) rest q (omega arith) link t in
+          let after = find-end links′ areas′ x (suc n) rest q (omega arith) link′ (ends-other q m (h .other) ∙ t) in
+          rw (before, after) (same refl m)
+      go (no m) on false t =
+          let link′ : getD links′ q 0 < 1025 = rw (g .links-other q m (h .other)) link in
+          let before = find-step links areas x n rest q link t in
+          let after = find-step links′ areas′ x n rest q link′ (ends-other q m (h .other) ∙ t) in
+          rw (before, after, child-other rest q m (h .other)) (on (child-on links areas c (g .counted) x rest q t))
+
+  place-walk : Walk links′ p a x (placeOf links areas x) (placeOf links′ areas′ x)
+  unfolding placeOf
+  place-walk = walk 33 x (root x) (root-child links areas c (g .counted) x)
+
+-- the area's node is the new one
+place-new : (links areas links′ areas′ : List ℕ) (c p a : ℕ) → Grown links areas links′ areas′ c p a → placeOf links areas a ≡ p → placeOf links′ areas′ a ≡ p
+place-new links areas links′ areas′ c p a g e = go (place-walk links areas links′ areas′ c p a g a)
+  where
+    go : Walk links′ p a a (placeOf links areas a) (placeOf links′ areas′ a) → placeOf links′ areas′ a ≡ p
+    go (same _ n) = absurd (n e)
+    go (own _ _ q) = q
+    go (past n _ _) = absurd (n refl)
+
+-- of another area the same is known as before, where the table can tell
+module _ (links areas states links′ areas′ states′ : List ℕ) (c p a : ℕ) (g : Grown links areas links′ areas′ c p a) (count : getD links 1024 0 ≡ c)
+    (states-other : (k : ℕ) → k ≢ c + 1 → getD states′ k 0 ≡ getD states k 0) where
+  -- at the same place
+  same-told : (x : ℕ) → placeOf links areas x < 3074 → placeOf links areas x ≢ p → stateAt links′ states′ (placeOf links areas x) ≢ 3
+      → stateAt links′ states′ (placeOf links areas x) ≡ stateAt links states (placeOf links areas x)
+  same-told x l n t = go (ℕ-discrete (getD links r 0) 0)
+    where
+      r : ℕ
+      r = placeOf links areas x
+
+      link : getD links′ r 0 ≡ getD links r 0
+      link = g .links-other r n (place-child links areas c (g .counted) x l .other)
+
+      go : Dec (getD links r 0 ≡ 0) → stateAt links′ states′ r ≡ stateAt links states r
+      go (yes e) = empty-told links′ states′ r t (link ∙ e) ∙ sym (state-empty links states r l e (omega (arith, g .room)))
       go (no m) =
-          let own = may-says areas states x k (t .may) m in
-          let other : k ≢ j = λ q. n (sym own ∙ ap (λ (b : ℕ). getD areas b 0) q ∙ may-says areas states a j (slot .may) (rw q at m)) in
-          let same : k ≡ i = sym (slot-is areas′ states′ x k (kept x k n other t)) ∙ slot-is areas′ states′ x i s in
-          rw same z
+          state-node links′ states′ r l (λ e. m (sym link ∙ e))
+          ∙ ap (λ (k : ℕ). getD states′ k 0) link
+          ∙ states-other (getD links r 0) (λ e. omega (arith, g .counted r))
+          ∙ sym (state-node links states r l m)
 
-  -- of another area that has a slot the same is known as before
-  told-after : (x i : ℕ) → x ≢ a → SlotAt areas′ states′ x i → stateAt states′ i ≡ stateAt states (slotOf areas states x)
-  told-after x i n s = state-at-slot states′ i l ∙ stored .states-other i m ∙ go (ℕ-discrete (getD states i 0) 0)
+  told-after : (x : ℕ) → x ≢ a → stateAt links′ states′ (placeOf links′ areas′ x) ≢ 3
+      → stateAt links′ states′ (placeOf links′ areas′ x) ≡ stateAt links states (placeOf links areas x)
+  told-after x n t = go (place-walk links areas links′ areas′ c p a g x)
     where
-      l : i < 1088
-      l = let h = s .near in omega (arith, first-small x)
+      l : placeOf links′ areas′ x < 3074
+      l = place-told links′ states′ (placeOf links′ areas′ x) t
 
-      m : i ≢ j
-      m e = not-both (taken x n) (rw e at (s .may))
-
-      may : mayHold areas states x i ≡ true
-      may = sym (may-other x i m) ∙ s .may
-
-      go : Dec (getD states i 0 ≡ 0) → getD states i 0 ≡ stateAt states (slotOf areas states x)
-      go (yes z) =
-          let k = slotOf areas states x in
-          let b = slot-before areas states x i (s .from) (s .near) may in
-          z ∙ sym (empty-before x i k n s z (slot-there areas states x b)) ∙ sym (state-at-slot states k b)
-      go (no z) =
-          let own = may-says areas states x i may z in
-          let p : slotOf areas states x ≡ i = ap (slotOf areas states) (sym own) ∙ placed i l z in
-          rw p (sym (state-at-slot states i l))
+      go : Walk links′ p a x (placeOf links areas x) (placeOf links′ areas′ x)
+          → stateAt links′ states′ (placeOf links′ areas′ x) ≡ stateAt links states (placeOf links areas x)
+      go (same e m) = rw e (same-told x (rw e at l) m (rw e at t))
+      go (own e _ _) = absurd (n e)
+      go (past _ e empty) =
+          let low = g .place .low in
+          empty-told links′ states′ (placeOf links′ areas′ x) t (empty l)
+          ∙ rw e (sym (state-empty links states p (omega (arith, g .room)) (g .empty) (omega (arith, g .room))))
 
 -- ---- what the arrays hold
 
-pub holds-same : {few areas states : List ℕ} {f g : ℕ → ℕ} → HoldsAreas few areas states f → ((x : ℕ) → f x ≡ g x) → HoldsAreas few areas states g
-holds-same h e = record { fews = h .fews; slots = h .slots; filled = h .filled; told = λ x n. h .told x n ∙ e x; placed = h .placed }
+pub holds-same : {few links areas states : List ℕ} {f g : ℕ → ℕ} → HoldsAreas few links areas states f → ((x : ℕ) → f x ≡ g x) → HoldsAreas few links areas states g
+holds-same h e =
+    record {
+      fews = h .fews;
+      places = h .places;
+      nodes = h .nodes;
+      filled = h .filled;
+      told = λ x n. h .told x n ∙ e x;
+      counted = h .counted;
+      fresh = h .fresh;
+    }
 
--- a large area of which the table can tell has a slot
-pub told-slot : (few areas states : List ℕ) (x : ℕ) → 1024 ≤ x → stateIn few areas states x ≢ 3 → slotOf areas states x < 1088
-told-slot few areas states x l n = go (decLt (slotOf areas states x) 1088)
-  where
-    go : Dec (slotOf areas states x < 1088) → slotOf areas states x < 1088
-    go (yes h) = h
-    go (no h) = absurd (n (state-large few areas states x l ∙ state-at-none states (slotOf areas states x) (omega arith)))
+-- place r is the area's: its node is one of the table's
+pub place-link : (links areas : List ℕ) (x r : ℕ) → r ≡ placeOf links areas x → r < 3074 → getD links r 0 < 1025
+place-link links areas x r e l = rw e (place-says links areas x (rw e at l) .0)
 
-module _ (few areas states : List ℕ) (f : ℕ → ℕ) (h : HoldsAreas few areas states f) (a v : ℕ) where
+-- a large area of which the table can tell has a place, and where that is empty there is room for its node
+module _ (few links areas states : List ℕ) (x : ℕ) (large : 1024 ≤ x) (told : stateIn few links areas states x ≢ 3) (r : ℕ) (e : r ≡ placeOf links areas x) where
+  told-at : stateAt links states r ≢ 3
+  told-at q = told (state-large few links areas states x large ∙ ap (stateAt links states) (sym e) ∙ q)
+
+  pub told-place : r < 3074
+  told-place = place-told links states r told-at
+
+  pub told-link : getD links r 0 < 1025
+  told-link = place-link links areas x r e told-place
+
+  pub told-room : getD links r 0 ≡ 0 → getD links 1024 0 < 1024
+  told-room = room-told links states r told-at
+
+module _ (few links areas states : List ℕ) (f : ℕ → ℕ) (h : HoldsAreas few links areas states f) (a v : ℕ) where
   -- one area has a new state, and of the others that can be told the same is known
-  told-put : (few′ areas′ states′ : List ℕ) → stateIn few′ areas′ states′ a ≡ v
-      → ((x : ℕ) → x ≢ a → stateIn few′ areas′ states′ x ≢ 3 → stateIn few′ areas′ states′ x ≡ stateIn few areas states x)
-      → (x : ℕ) → stateIn few′ areas′ states′ x ≢ 3 → stateIn few′ areas′ states′ x ≡ cond (eqb x a) v (f x)
-  told-put few′ areas′ states′ new old x n = go (ℕ-discrete x a)
+  told-put : (few′ links′ areas′ states′ : List ℕ) → stateIn few′ links′ areas′ states′ a ≡ v
+      → ((x : ℕ) → x ≢ a → stateIn few′ links′ areas′ states′ x ≢ 3 → stateIn few′ links′ areas′ states′ x ≡ stateIn few links areas states x)
+      → (x : ℕ) → stateIn few′ links′ areas′ states′ x ≢ 3 → stateIn few′ links′ areas′ states′ x ≡ cond (eqb x a) v (f x)
+  told-put few′ links′ areas′ states′ new old x n = go (ℕ-discrete x a)
     where
-      go : Dec (x ≡ a) → stateIn few′ areas′ states′ x ≡ cond (eqb x a) v (f x)
+      go : Dec (x ≡ a) → stateIn few′ links′ areas′ states′ x ≡ cond (eqb x a) v (f x)
       go (yes e) = rw (e, eq-eqb a a refl) new
       go (no m) = let q = old x m n in rw (ne-eqb x a m) (q ∙ h .told x (λ t. n (q ∙ t)))
 
-  pub holds-put-few : a < 1024 → HoldsAreas (set few a v) areas states (λ x. cond (eqb x a) v (f x))
+  pub holds-put-few : a < 1024 → HoldsAreas (set few a v) links areas states (λ x. cond (eqb x a) v (f x))
   holds-put-few l =
       let fews = h .fews in
       record {
         fews = simp length-set fews;
-        slots = h .slots;
+        places = h .places;
+        nodes = h .nodes;
         filled = h .filled;
         told =
-            told-put (set few a v) areas states (state-few _ areas states a l ∙ getD-set-same few a v 0 (omega arith)) (λ x m n. other x m (decLt x 1024));
-        placed = h .placed;
+            told-put (set few a v) links areas states (state-few _ links areas states a l ∙ getD-set-same few a v 0 (omega arith)) (λ x m n. other x m (decLt x 1024));
+        counted = h .counted;
+        fresh = h .fresh;
       }
     where
-      other : (x : ℕ) → x ≢ a → Dec (x < 1024) → stateIn (set few a v) areas states x ≡ stateIn few areas states x
-      other x m (yes k) = state-few _ areas states x k ∙ getD-set-other few a x v 0 m ∙ sym (state-few few areas states x k)
-      other x m (no k) = state-large _ areas states x (omega arith) ∙ sym (state-large few areas states x (omega arith))
+      other : (x : ℕ) → x ≢ a → Dec (x < 1024) → stateIn (set few a v) links areas states x ≡ stateIn few links areas states x
+      other x m (yes k) = state-few _ links areas states x k ∙ getD-set-other few a x v 0 m ∙ sym (state-few few links areas states x k)
+      other x m (no k) = state-large _ links areas states x (omega arith) ∙ sym (state-large few links areas states x (omega arith))
 
-  pub holds-put-slot : 1024 ≤ a → v ≢ 0 → slotOf areas states a < 1088
-      → HoldsAreas few (set areas (slotOf areas states a) a) (set states (slotOf areas states a) v) (λ x. cond (eqb x a) v (f x))
-  holds-put-slot l z b =
+  -- what is known of the large areas tells what is known of all
+  told-large : (links′ areas′ states′ : List ℕ) → 1024 ≤ a → stateAt links′ states′ (placeOf links′ areas′ a) ≡ v
+      → ((x : ℕ) → x ≢ a → stateAt links′ states′ (placeOf links′ areas′ x) ≢ 3 → stateAt links′ states′ (placeOf links′ areas′ x) ≡ stateAt links states (placeOf links areas x))
+      → (x : ℕ) → stateIn few links′ areas′ states′ x ≢ 3 → stateIn few links′ areas′ states′ x ≡ cond (eqb x a) v (f x)
+  told-large links′ areas′ states′ l new old =
+      told-put few links′ areas′ states′ (state-large few links′ areas′ states′ a l ∙ new) (λ x m n. other x m n (decLt x 1024))
+    where
+      other : (x : ℕ) → x ≢ a → stateIn few links′ areas′ states′ x ≢ 3 → Dec (x < 1024) → stateIn few links′ areas′ states′ x ≡ stateIn few links areas states x
+      other x m n (yes k) = state-few few links′ areas′ states′ x k ∙ sym (state-few few links areas states x k)
+      other x m n (no k) =
+          let e = state-large few links′ areas′ states′ x (omega arith) in
+          e ∙ old x m (λ t. n (e ∙ t)) ∙ sym (state-large few links areas states x (omega arith))
+
+  pub holds-put-node : 1024 ≤ a → (p : ℕ) → p ≡ placeOf links areas a → p < 3074 → getD links p 0 ≢ 0
+      → HoldsAreas few links areas (set states (getD links p 0) v) (λ x. cond (eqb x a) v (f x))
+  holds-put-node l p e b n =
       record {
         fews = h .fews;
-        slots = simp length-set (h .slots);
+        places = h .places;
+        nodes = h .nodes;
         filled = simp length-set (h .filled);
-        told = told-put few areas′ states′ new (λ x m n. other x m n (decLt x 1024));
-        placed = placed-after areas states areas′ states′ j a slot stored (h .placed);
+        told = told-large links areas states′ l new other;
+        counted = h .counted;
+        fresh = h .fresh;
       }
     where
-      j : ℕ
-      j = slotOf areas states a
-
-      areas′ : List ℕ
-      areas′ = set areas j a
+      k : ℕ
+      k = getD links p 0
 
       states′ : List ℕ
-      states′ = set states j v
+      states′ = set states k v
 
-      slot : SlotAt areas states a j
-      slot = slot-there areas states a b
+      small : k < 1025
+      small = place-link links areas a p e b
 
-      put : getD states′ j 0 ≡ v
-      put = let n = h .filled in getD-set-same states j v 0 (omega (arith, b))
+      new : stateAt links states′ (placeOf links areas a) ≡ v
+      new = let filled = h .filled in rw (← e) (state-node links states′ p b n ∙ getD-set-same states k v 0 (omega (arith, small)))
 
-      stored : Stored areas states areas′ states′ j a
-      stored =
-          let n = h .slots in
+      mine : getD areas k 0 ≡ a
+      mine = ends-says links areas a p (rw e (place-says links areas a (rw e at b) .1)) n
+
+      other : (x : ℕ) → x ≢ a → stateAt links states′ (placeOf links areas x) ≢ 3 → stateAt links states′ (placeOf links areas x) ≡ stateAt links states (placeOf links areas x)
+      other x m t = go (ℕ-discrete (getD links r 0) 0)
+        where
+          r : ℕ
+          r = placeOf links areas x
+
+          q : r < 3074
+          q = place-told links states′ r t
+
+          go : Dec (getD links r 0 ≡ 0) → stateAt links states′ r ≡ stateAt links states r
+          go (yes e) =
+              empty-told links states′ r t e
+              ∙ sym (state-empty links states r q e (room-told links states′ r t e))
+          go (no z) =
+              let own = ends-says links areas x r (place-says links areas x q .1) z in
+              state-node links states′ r q z
+              ∙ getD-set-other states k (getD links r 0) v 0 (λ e. m (sym own ∙ ap (λ (i : ℕ). getD areas i 0) e ∙ mine))
+              ∙ sym (state-node links states r q z)
+
+  pub holds-put-new : 1024 ≤ a → (p : ℕ) → p ≡ placeOf links areas a → p < 3074 → getD links p 0 ≡ 0 → getD links 1024 0 < 1024
+      → HoldsAreas few (set (set links p (getD links 1024 0 + 1)) 1024 (getD links 1024 0 + 1)) (set areas (getD links 1024 0 + 1) a)
+      (set states (getD links 1024 0 + 1) v) (λ x. cond (eqb x a) v (f x))
+  holds-put-new l p e b z room =
+      record {
+        fews = h .fews;
+        places = simp length-set (h .places);
+        nodes = simp length-set (h .nodes);
+        filled = simp length-set (h .filled);
+        told = told-large links′ areas′ states′ l new (told-after links areas states links′ areas′ states′ c p a grown refl (λ k m. getD-set-other states (c + 1) k v 0 m));
+        counted = λ i. counted i (ℕ-discrete i p) (ℕ-discrete i 1024);
+        fresh = fresh;
+      }
+    where
+      c : ℕ
+      c = getD links 1024 0
+
+      links′ : List ℕ
+      links′ = set (set links p (c + 1)) 1024 (c + 1)
+
+      areas′ : List ℕ
+      areas′ = set areas (c + 1) a
+
+      states′ : List ℕ
+      states′ = set states (c + 1) v
+
+      place : Child c p
+      place = rw e (place-child links areas c (h .counted) a (rw e at b))
+
+      link : getD links′ p 0 ≡ c + 1
+      link =
+          let places = h .places in
+          getD-set-other (set links p (c + 1)) 1024 p (c + 1) 0 (place .other) ∙ getD-set-same links p (c + 1) 0 (omega (arith, b))
+
+      count : getD links′ 1024 0 ≡ c + 1
+      count = let places = h .places in getD-set-same (set links p (c + 1)) 1024 (c + 1) 0 (simp length-set (omega arith))
+
+      links-other : (i : ℕ) → i ≢ p → i ≢ 1024 → getD links′ i 0 ≡ getD links i 0
+      links-other i n m = getD-set-other (set links p (c + 1)) 1024 i (c + 1) 0 m ∙ getD-set-other links p i (c + 1) 0 n
+
+      grown : Grown links areas links′ areas′ c p a
+      grown =
+          let nodes = h .nodes in
           record {
-            area = getD-set-same areas j a 0 (omega (arith, b));
-            state = λ e. z (sym put ∙ e);
-            areas-other = λ i m. getD-set-other areas j i a 0 m;
-            states-other = λ i m. getD-set-other states j i v 0 m;
+            room = room;
+            counted = h .counted;
+            fresh = h .fresh;
+            empty = z;
+            place = place;
+            link = link;
+            area = getD-set-same areas (c + 1) a 0 (omega (arith, room));
+            links-other = links-other;
+            areas-other = λ k m. getD-set-other areas (c + 1) k a 0 m;
           }
 
-      new : stateIn few areas′ states′ a ≡ v
+      new : stateAt links′ states′ (placeOf links′ areas′ a) ≡ v
       new =
-          state-large few areas′ states′ a l
-          ∙ ap (stateAt states′) (slot-is areas′ states′ a j (given areas states areas′ states′ j a slot stored (h .placed)))
-          ∙ state-at-slot states′ j b
-          ∙ put
+          let filled = h .filled in
+          rw (place-new links areas links′ areas′ c p a grown (sym e))
+          (state-node links′ states′ p b (λ e. omega (arith, link)) ∙ rw link (getD-set-same states (c + 1) v 0 (omega (arith, room))))
 
-      other : (x : ℕ) → x ≢ a → stateIn few areas′ states′ x ≢ 3 → Dec (x < 1024) → stateIn few areas′ states′ x ≡ stateIn few areas states x
-      other x m n (yes k) = state-few few areas′ states′ x k ∙ sym (state-few few areas states x k)
-      other x m n (no k) =
-          let s = slot-there areas′ states′ x (told-slot few areas′ states′ x (omega arith) n) in
-          state-large few areas′ states′ x (omega arith)
-          ∙ told-after areas states areas′ states′ j a slot stored (h .placed) x (slotOf areas′ states′ x) m s
-          ∙ sym (state-large few areas states x (omega arith))
+      counted : (i : ℕ) → Dec (i ≡ p) → Dec (i ≡ 1024) → getD links′ i 0 ≤ getD links′ 1024 0
+      counted i (yes e) _ = rw (e, link, count) (omega arith)
+      counted i (no n) (yes e) = rw e (omega arith)
+      counted i (no n) (no m) = rw (links-other i n m, count) (omega (arith, h .counted i))
+
+      fresh : (i : ℕ) → 1026 + 2 * getD links′ 1024 0 ≤ i → getD links′ i 0 ≡ 0
+      fresh i m =
+          let low = place .low in
+          links-other i (λ e. omega (arith, count)) (λ e. omega (arith, count)) ∙ h .fresh i (omega (arith, count))
 
 -- ---- the empty table
 
--- where every state is 0, nothing is known of any area, whatever stands in the slots
-pub holds-empty : (few areas states : List ℕ) → length few ≡ 1024 → length areas ≡ 1088 → length states ≡ 1088
-    → ((i : ℕ) → getD few i 0 ≡ 0) → ((j : ℕ) → getD states j 0 ≡ 0) → HoldsAreas few areas states (λ _. 0)
-holds-empty few areas states fews slots filled no-few no-state =
-    record { fews = fews; slots = slots; filled = filled; told = λ x _. told x (decLt x 1024); placed = λ j _ n. absurd (n (no-state j)) }
+-- where every link is 0, nothing is known of any area, whatever stands in the nodes
+pub holds-empty : (few links areas states : List ℕ) → length few ≡ 1024 → length links ≡ 3074 → length areas ≡ 1025 → length states ≡ 1025
+    → ((i : ℕ) → getD few i 0 ≡ 0) → ((p : ℕ) → getD links p 0 ≡ 0) → HoldsAreas few links areas states (λ _. 0)
+holds-empty few links areas states fews places nodes filled no-few no-link =
+    record {
+      fews = fews;
+      places = places;
+      nodes = nodes;
+      filled = filled;
+      told = λ x _. told x (decLt x 1024);
+      counted = λ p. omega (arith, no-link p);
+      fresh = λ p _. no-link p;
+    }
   where
-    slot : (x : ℕ) → SlotAt areas states x (firstSlot x)
-    slot x =
-        record {
-          from = omega arith;
-          near = omega arith;
-          may = may-empty areas states x (firstSlot x) (no-state (firstSlot x));
-          past = λ k l f. absurd (omega arith);
-        }
-
-    told : (x : ℕ) → Dec (x < 1024) → stateIn few areas states x ≡ 0
-    told x (yes l) = state-few few areas states x l ∙ no-few x
+    told : (x : ℕ) → Dec (x < 1024) → stateIn few links areas states x ≡ 0
+    told x (yes l) = state-few few links areas states x l ∙ no-few x
     told x (no l) =
-        state-large few areas states x (omega arith)
-        ∙ ap (stateAt states) (slot-is areas states x (firstSlot x) (slot x))
-        ∙ state-at-slot states (firstSlot x) (omega (arith, first-small x))
-        ∙ no-state (firstSlot x)
+        state-large few links areas states x (omega arith)
+        ∙ ap (stateAt links states) (place-at-root links areas x (no-link (root x)))
+        ∙ state-empty links states (root x) (omega (arith, root-small x)) (no-link (root x)) (omega (arith, no-link 1024))
 
 zeros : (n i : ℕ) → getD {A = ℕ} (replicate n 0) i 0 ≡ 0
 zeros zero i = refl
 zeros (suc n) zero = refl
 zeros (suc n) (suc i) = zeros n i
 
-pub holds-none : HoldsAreas (replicate 1024 0) (replicate 1088 0) (replicate 1088 0) (λ _. 0)
+pub holds-none : HoldsAreas (replicate 1024 0) (replicate 3074 0) (replicate 1025 0) (replicate 1025 0) (λ _. 0)
 holds-none =
     holds-empty
     (replicate 1024 0)
-    (replicate 1088 0)
-    (replicate 1088 0)
+    (replicate 3074 0)
+    (replicate 1025 0)
+    (replicate 1025 0)
     (length-replicate {A = ℕ} 1024 0)
-    (length-replicate {A = ℕ} 1088 0)
-    (length-replicate {A = ℕ} 1088 0)
+    (length-replicate {A = ℕ} 3074 0)
+    (length-replicate {A = ℕ} 1025 0)
+    (length-replicate {A = ℕ} 1025 0)
     (zeros 1024)
-    (zeros 1088)
+    (zeros 3074)

@@ -1,44 +1,52 @@
--- What is known of each area, by its index: 0 nothing, 1 it is allocated, 2 it was inserted. Indexes below 1,024 have a place of their own; others share a
--- table, in which an area stands in one of 64 slots from a first one on, that its index names. 3 stands for an area of which the table can't tell.
-use Prim.Native.Nat.{ℕ, _+_, _*_, _/_, _%_, _<_}
+-- What is known of each area, by its index: 0 nothing, 1 it is allocated, 2 it was inserted. 3 stands for an area of which the table can't tell.
+-- Indexes below 1,024 have a place of their own. Any other has a node, which is found from one of 1,024 roots, that a hash of the index names, by the bits of
+-- the index. Places are indexes into `links`: the roots are places 0 to 1023, the two children of node k are places 1024 + 2 * k and 1025 + 2 * k. No node has
+-- number 0: a place with 0 is empty, and place 1024 has the number of nodes.
+use Prim.Native.Nat.{ℕ, zero, suc, _+_, _*_, _/_, _%_, _≤_}
 use mathlib.Core.Bool.{Bool, cond, _||_}
 use mathlib.Core.List.{List}
 use mathlib.Core.Logic.{_≢_}
-use mathlib.Core.Option.{Option, none, some}
 use mathlib.Core.Path.{_≡_}
 use lib.Dec.{eqb, ltb}
 use lib.ListN.{length, getD}
-use Rattle.rows.specs.Below.{firstBelow}
 
--- the first slot for an area, below 1,024
-unfoldable pub firstSlot : ℕ → ℕ
-firstSlot area = area * 2654435769 % 4294967296 / 4194304
+-- the root for an area, below 1,024
+unfoldable pub root : ℕ → ℕ
+root area = area * 2654435769 % 4294967296 / 4194304
 
--- slot j is empty, or has the area
-unfoldable pub mayHold : List ℕ → List ℕ → ℕ → ℕ → Bool
-mayHold areas states area j = eqb (getD states j 0) 0 || eqb (getD areas j 0) area
+-- place p is empty, or its node is the area's
+unfoldable pub ends : List ℕ → List ℕ → ℕ → ℕ → Bool
+ends links areas area p = eqb (getD links p 0) 0 || eqb (getD areas (getD links p 0) 0) area
 
-abbrev pub slotAt : ℕ → Option ℕ → ℕ
-slotAt area none = 1088
-slotAt area (some d) = firstSlot area + d
+-- the child of the node at place p that the lowest bit of the rest names
+unfoldable pub child : List ℕ → ℕ → ℕ → ℕ
+child links rest p = 1024 + 2 * getD links p 0 + rest % 2
 
--- the area's slot, or the empty one that it would take; 1,088 where its 64 slots are full
-unfoldable pub slotOf : List ℕ → List ℕ → ℕ → ℕ
-slotOf areas states area = slotAt area (firstBelow 64 (λ d. mayHold areas states area (firstSlot area + d)))
+-- the area's place from place p on, or the empty one that its node would take; 3,074 where n looks do not find it
+unfoldable pub findFrom : List ℕ → List ℕ → ℕ → ℕ → ℕ → ℕ → ℕ
+findFrom links areas area zero rest p = 3074
+findFrom links areas area (suc n) rest p =
+    cond (ltb (getD links p 0) 1025) (cond (ends links areas area p) p (findFrom links areas area n (rest / 2) (child links rest p))) 3074
 
--- what is known of an area in the table
-unfoldable pub stateAt : List ℕ → ℕ → ℕ
-stateAt states slot = cond (ltb slot 1088) (getD states slot 0) 3
+unfoldable pub placeOf : List ℕ → List ℕ → ℕ → ℕ
+placeOf links areas area = findFrom links areas area 33 area (root area)
+
+-- what is known of an area by its place: where it is empty, nothing, as long as another node can be made
+unfoldable pub stateAt : List ℕ → List ℕ → ℕ → ℕ
+stateAt links states p =
+    cond (ltb p 3074) (cond (eqb (getD links p 0) 0) (cond (ltb (getD links 1024 0) 1024) 0 3) (getD states (getD links p 0) 0)) 3
 
 -- what is known of an area
-unfoldable pub stateIn : List ℕ → List ℕ → List ℕ → ℕ → ℕ
-stateIn few areas states area = cond (ltb area 1024) (getD few area 0) (stateAt states (slotOf areas states area))
+unfoldable pub stateIn : List ℕ → List ℕ → List ℕ → List ℕ → ℕ → ℕ
+stateIn few links areas states area = cond (ltb area 1024) (getD few area 0) (stateAt links states (placeOf links areas area))
 
 -- f says of every area what is known of it, wherever the table can tell
-pub record HoldsAreas (few areas states : List ℕ) (f : ℕ → ℕ) : Type 0 where
+pub record HoldsAreas (few links areas states : List ℕ) (f : ℕ → ℕ) : Type 0 where
   pub fews : length few ≡ 1024
-  pub slots : length areas ≡ 1088
-  pub filled : length states ≡ 1088
-  pub told : (x : ℕ) → stateIn few areas states x ≢ 3 → stateIn few areas states x ≡ f x
-  -- an area that stands in a slot is found there
-  pub placed : (j : ℕ) → j < 1088 → getD states j 0 ≢ 0 → slotOf areas states (getD areas j 0) ≡ j
+  pub places : length links ≡ 3074
+  pub nodes : length areas ≡ 1025
+  pub filled : length states ≡ 1025
+  pub told : (x : ℕ) → stateIn few links areas states x ≢ 3 → stateIn few links areas states x ≡ f x
+  -- nodes are numbered from 1 on, and those to come have no children
+  pub counted : (p : ℕ) → getD links p 0 ≤ getD links 1024 0
+  pub fresh : (p : ℕ) → 1026 + 2 * getD links 1024 0 ≤ p → getD links p 0 ≡ 0

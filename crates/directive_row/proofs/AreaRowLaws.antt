@@ -58,9 +58,9 @@ module _ (earlier : Rows IgvmDirectiveHeader) (x : ℕ) where
   live-says e = let (a, i) = state-live (any (allocates x) earlier) (any (inserts x) earlier) e in rw (a, i)
 
 -- what the table says is so
-pub table-says : (few areas states : List ℕ) (earlier : Rows IgvmDirectiveHeader) (x n : ℕ) → HoldsAreas few areas states (stateOf earlier) → stateIn few areas states x ≡ n → n < 3
+pub table-says : (few links areas states : List ℕ) (earlier : Rows IgvmDirectiveHeader) (x n : ℕ) → HoldsAreas few links areas states (stateOf earlier) → stateIn few links areas states x ≡ n → n < 3
     → stateOf earlier x ≡ n
-table-says few areas states earlier x n h e l = sym (h .told x (λ q. omega arith)) ∙ e
+table-says few links areas states earlier x n h e l = sym (h .told x (λ q. omega arith)) ∙ e
 
 -- ---- 33
 
@@ -80,9 +80,9 @@ module _ (earlier : Rows IgvmDirectiveHeader) (b : List ℕ) (none : stateOf ear
           rw (a, i)
       go false e = rw (or-false (any (allocates x) earlier), or-false (any (inserts x) earlier))
 
-  pub area-row : (arch : Arch) (few areas states : List ℕ) → Sound arch 33 b → HoldsAreas few areas states (λ x. cond (eqb x (leAt 4 b 8)) 1 (stateOf earlier x))
-      → AreaRow arch earlier 33 b few areas states
-  area-row arch few areas states sound h = record { sound = sound; area = area-good; known = holds-same h area-state }
+  pub area-row : (arch : Arch) (few links areas states : List ℕ) → Sound arch 33 b → HoldsAreas few links areas states (λ x. cond (eqb x (leAt 4 b 8)) 1 (stateOf earlier x))
+      → AreaRow arch earlier 33 b few links areas states
+  area-row arch few links areas states sound h = record { sound = sound; area = area-good; known = holds-same h area-state }
 
 -- ---- 50
 
@@ -99,10 +99,10 @@ module _ (earlier : Rows IgvmDirectiveHeader) (b : List ℕ) (live : stateOf ear
       go true e = rw (or-true (any (inserts x) earlier))
       go false e = rw (or-false (any (allocates x) earlier), or-false (any (inserts x) earlier))
 
-  pub insert-area : (arch : Arch) (few areas states : List ℕ) → length b ≡ 16 → onPage (leAt 8 b 0) ≡ true
-      → HoldsAreas few areas states (λ x. cond (eqb x (leAt 4 b 12)) 2 (stateOf earlier x)) → AreaRow arch earlier 50 b few areas states
+  pub insert-area : (arch : Arch) (few links areas states : List ℕ) → length b ≡ 16 → onPage (leAt 8 b 0) ≡ true
+      → HoldsAreas few links areas states (λ x. cond (eqb x (leAt 4 b 12)) 2 (stateOf earlier x)) → AreaRow arch earlier 50 b few links areas states
   unfolding kindOf spans lengthOk codesOk ownDirectiveFault directiveOf wrongArch isFault
-  insert-area arch few areas states l p h =
+  insert-area arch few links areas states l p h =
       record { sound = record { list = refl; long = rw l; codes = refl; own = rw p }; area = insert-good; known = holds-same h insert-state }
 
 -- no page table holds its address
@@ -156,9 +156,9 @@ module _ (k : ℕ) (e : isParameter k ≡ true) (b : List ℕ) where
   parameter-state earlier x =
       rw (parameter k e .allocated x b, parameter k e .inserted x b, or-false (any (allocates x) earlier), or-false (any (inserts x) earlier))
 
-  pub parameter-area : (earlier : Rows IgvmDirectiveHeader) → stateOf earlier (leAt 4 b 0) ≡ 1 → (arch : Arch) (few areas states : List ℕ) → length b ≡ 8
-      → HoldsAreas few areas states (stateOf earlier) → AreaRow arch earlier k b few areas states
-  parameter-area earlier live arch few areas states l h =
+  pub parameter-area : (earlier : Rows IgvmDirectiveHeader) → stateOf earlier (leAt 4 b 0) ≡ 1 → (arch : Arch) (few links areas states : List ℕ) → length b ≡ 8
+      → HoldsAreas few links areas states (stateOf earlier) → AreaRow arch earlier k b few links areas states
+  parameter-area earlier live arch few links areas states l h =
       let p = parameter k e in
       record {
         sound = record { list = ap (λ (t : Kind). t .list) (p .kind) ∙ parameter-list; long = rw (p .kind, l) parameter-long; codes = p .codes b; own = p .own arch b };
@@ -175,18 +175,18 @@ module _ (k : ℕ) (e : isParameter k ≡ true) (b : List ℕ) where
 -- ---- what each arm gives
 
 module _ (arch : Arch) (is : Rows IgvmInitializationHeader) (earlier : Rows IgvmDirectiveHeader) where
-  pub area-named : (kind : ℕ) (b few areas states : List ℕ) → kind ≡ 33 → AreaRow arch earlier 33 b few areas states → NamedRow arch is earlier kind b few areas states
+  pub area-named : (kind : ℕ) (b few links areas states : List ℕ) → kind ≡ 33 → AreaRow arch earlier 33 b few links areas states → NamedRow arch is earlier kind b few links areas states
   unfolding directiveOf
-  area-named kind b few areas states e row = rw e (record { row = row; table = refl; other = λ level bits. refl })
+  area-named kind b few links areas states e row = rw e (record { row = row; table = refl; other = λ level bits. refl })
 
-  pub insert-named : (kind : ℕ) (b few areas states : List ℕ) → kind ≡ 50 → AreaRow arch earlier 50 b few areas states → insideTable is (directiveOf 50 b) ≡ false
-      → NamedRow arch is earlier kind b few areas states
+  pub insert-named : (kind : ℕ) (b few links areas states : List ℕ) → kind ≡ 50 → AreaRow arch earlier 50 b few links areas states → insideTable is (directiveOf 50 b) ≡ false
+      → NamedRow arch is earlier kind b few links areas states
   unfolding directiveOf
-  insert-named kind b few areas states e row table = rw e (record { row = row; table = table; other = λ level bits. refl })
+  insert-named kind b few links areas states e row table = rw e (record { row = row; table = table; other = λ level bits. refl })
 
-  pub parameter-named : (kind : ℕ) → isParameter kind ≡ true → (b few areas states : List ℕ) → AreaRow arch earlier kind b few areas states
-      → NamedRow arch is earlier kind b few areas states
-  parameter-named kind p b few areas states row = record { row = row; table = parameter-table kind p b is; other = parameter-context kind p b }
+  pub parameter-named : (kind : ℕ) → isParameter kind ≡ true → (b few links areas states : List ℕ) → AreaRow arch earlier kind b few links areas states
+      → NamedRow arch is earlier kind b few links areas states
+  parameter-named kind p b few links areas states row = record { row = row; table = parameter-table kind p b is; other = parameter-context kind p b }
 
 -- the kinds of the arm
 pub is-parameter : (kind : ℕ) → 34 ≤ kind → kind ≤ 43 → isParameter kind ≡ true

@@ -63,13 +63,13 @@ abbrev pub HoldsTables : List ℕ → List ℕ → List ℕ → List Bool → �
 HoldsTables masks gpas sizes tables n xs = (mask gpa : ℕ) → anyTableHolds mask gpa masks gpas sizes tables n ≡ any (regionPasses (tableHolds mask gpa)) xs
 
 -- a row that names an area, after these directive rows
-pub record AreaRow (arch : Arch) (earlier : Rows IgvmDirectiveHeader) (kind : ℕ) (b few areas states : List ℕ) : Type 0 where
+pub record AreaRow (arch : Arch) (earlier : Rows IgvmDirectiveHeader) (kind : ℕ) (b few links areas states : List ℕ) : Type 0 where
   pub sound : Sound arch kind b
   pub area : badArea earlier (directiveOf kind b) ≡ false
-  pub known : HoldsAreas few areas states (stateAfter earlier (directiveOf kind b))
+  pub known : HoldsAreas few links areas states (stateAfter earlier (directiveOf kind b))
 
 -- such a row, also by the page tables of these initialization rows; it is no context
-pub record NamedRow (arch : Arch) (is : Rows IgvmInitializationHeader) (earlier : Rows IgvmDirectiveHeader) (kind : ℕ) (b few areas states : List ℕ) : Type 0 where
-  pub row : AreaRow arch earlier kind b few areas states
+pub record NamedRow (arch : Arch) (is : Rows IgvmInitializationHeader) (earlier : Rows IgvmDirectiveHeader) (kind : ℕ) (b few links areas states : List ℕ) : Type 0 where
+  pub row : AreaRow arch earlier kind b few links areas states
   pub table : insideTable is (directiveOf kind b) ≡ false
   pub other : (level bits : ℕ) → isContext level bits (directiveOf kind b) ≡ false

@@ -128,20 +128,21 @@ pub fn plain_row(kind: u32, b: &[u8], x64: bool, contexts: &mut [u32; 3]) -> boo
 fn parameter_area_row(
     b: &[u8],
     few: &mut [u8; area_table::FEW],
-    areas: &mut [u32; area_table::SLOTS],
-    states: &mut [u8; area_table::SLOTS],
+    links: &mut [u16; area_table::LINKS],
+    areas: &mut [u32; area_table::NODES],
+    states: &mut [u8; area_table::NODES],
 ) -> bool
-    ensures { λ r. ⌜ ((arch : Arch) (earlier : Rows IgvmDirectiveHeader) → HoldsAreas (now (few .entry)) (now (areas .entry)) (now (states .entry)) (stateOf earlier) → r ≡ true → AreaRow arch earlier 33 (now (b .entry)) (now (few .exit)) (now (areas .exit)) (now (states .exit))) ⌝ }
-    ensures { λ r. ⌜ ((known : ℕ → ℕ) → r ≡ false → HoldsAreas (now (few .entry)) (now (areas .entry)) (now (states .entry)) known → HoldsAreas (now (few .exit)) (now (areas .exit)) (now (states .exit)) known) ⌝ }
+    ensures { λ r. ⌜ ((arch : Arch) (earlier : Rows IgvmDirectiveHeader) → HoldsAreas (now (few .entry)) (now (links .entry)) (now (areas .entry)) (now (states .entry)) (stateOf earlier) → r ≡ true → AreaRow arch earlier 33 (now (b .entry)) (now (few .exit)) (now (links .exit)) (now (areas .exit)) (now (states .exit))) ⌝ }
+    ensures { λ r. ⌜ ((known : ℕ → ℕ) → r ≡ false → HoldsAreas (now (few .entry)) (now (links .entry)) (now (areas .entry)) (now (states .entry)) known → HoldsAreas (now (few .exit)) (now (links .exit)) (now (areas .exit)) (now (states .exit)) known) ⌝ }
 {
     if !parameter_area(b) {
         return false;
     }
     let area = le::u32_at(b, 8);
-    if area_table::state_of(few, areas, states, area) != 0 {
+    if area_table::state_of(few, links, areas, states, area) != 0 {
         return false;
     }
-    area_table::put(few, areas, states, area, 1);
+    area_table::put(few, links, areas, states, area, 1);
     true
 }
 
@@ -149,26 +150,28 @@ fn parameter_area_row(
 pub fn parameter_row(
     b: &[u8],
     few: &[u8; area_table::FEW],
-    areas: &[u32; area_table::SLOTS],
-    states: &[u8; area_table::SLOTS],
+    links: &[u16; area_table::LINKS],
+    areas: &[u32; area_table::NODES],
+    states: &[u8; area_table::NODES],
 ) -> bool
-    ensures { λ r. ⌜ ((arch : Arch) (earlier : Rows IgvmDirectiveHeader) (kind : ℕ) → isParameter kind ≡ true → HoldsAreas (now (few .entry)) (now (areas .entry)) (now (states .entry)) (stateOf earlier) → r ≡ true → AreaRow arch earlier kind (now (b .entry)) (now (few .entry)) (now (areas .entry)) (now (states .entry))) ⌝ }
+    ensures { λ r. ⌜ ((arch : Arch) (earlier : Rows IgvmDirectiveHeader) (kind : ℕ) → isParameter kind ≡ true → HoldsAreas (now (few .entry)) (now (links .entry)) (now (areas .entry)) (now (states .entry)) (stateOf earlier) → r ≡ true → AreaRow arch earlier kind (now (b .entry)) (now (few .entry)) (now (links .entry)) (now (areas .entry)) (now (states .entry))) ⌝ }
 {
     if b.len() != 8 {
         return false;
     }
-    area_table::state_of(few, areas, states, le::u32_at(b, 0)) == 1
+    area_table::state_of(few, links, areas, states, le::u32_at(b, 0)) == 1
 }
 
 // 50: an address on a page, an area that is allocated.
 fn insert_row(
     b: &[u8],
     few: &mut [u8; area_table::FEW],
-    areas: &mut [u32; area_table::SLOTS],
-    states: &mut [u8; area_table::SLOTS],
+    links: &mut [u16; area_table::LINKS],
+    areas: &mut [u32; area_table::NODES],
+    states: &mut [u8; area_table::NODES],
 ) -> bool
-    ensures { λ r. ⌜ ((arch : Arch) (earlier : Rows IgvmDirectiveHeader) → HoldsAreas (now (few .entry)) (now (areas .entry)) (now (states .entry)) (stateOf earlier) → r ≡ true → AreaRow arch earlier 50 (now (b .entry)) (now (few .exit)) (now (areas .exit)) (now (states .exit))) ⌝ }
-    ensures { λ r. ⌜ ((known : ℕ → ℕ) → r ≡ false → HoldsAreas (now (few .entry)) (now (areas .entry)) (now (states .entry)) known → HoldsAreas (now (few .exit)) (now (areas .exit)) (now (states .exit)) known) ⌝ }
+    ensures { λ r. ⌜ ((arch : Arch) (earlier : Rows IgvmDirectiveHeader) → HoldsAreas (now (few .entry)) (now (links .entry)) (now (areas .entry)) (now (states .entry)) (stateOf earlier) → r ≡ true → AreaRow arch earlier 50 (now (b .entry)) (now (few .exit)) (now (links .exit)) (now (areas .exit)) (now (states .exit))) ⌝ }
+    ensures { λ r. ⌜ ((known : ℕ → ℕ) → r ≡ false → HoldsAreas (now (few .entry)) (now (links .entry)) (now (areas .entry)) (now (states .entry)) known → HoldsAreas (now (few .exit)) (now (links .exit)) (now (areas .exit)) (now (states .exit)) known) ⌝ }
 {
     if b.len() != 16 {
         return false;
@@ -177,10 +180,10 @@ fn insert_row(
     if !addresses::on_page(le::u64_at(b, 0)) {
         return false;
     }
-    if area_table::state_of(few, areas, states, area) != 1 {
+    if area_table::state_of(few, links, areas, states, area) != 1 {
         return false;
     }
-    area_table::put(few, areas, states, area, 2);
+    area_table::put(few, links, areas, states, area, 2);
     true
 }
 
@@ -218,17 +221,18 @@ fn parameter_insert_row<'a>(
     tables: &'a [bool],
     n: usize,
     few: &mut [u8; area_table::FEW],
-    areas: &mut [u32; area_table::SLOTS],
-    states: &mut [u8; area_table::SLOTS],
+    links: &mut [u16; area_table::LINKS],
+    areas: &mut [u32; area_table::NODES],
+    states: &mut [u8; area_table::NODES],
 ) -> bool
     requires { ⌜ (n ≤ length (now masks)) × (n ≤ length (now gpas)) × (n ≤ length (now sizes)) × (n ≤ length (now tables)) ⌝ }
-    ensures { λ r. ⌜ ((arch : Arch) (is : Rows IgvmInitializationHeader) (earlier : Rows IgvmDirectiveHeader) → HoldsTables (now (masks .entry)) (now (gpas .entry)) (now (sizes .entry)) (now (tables .entry)) n is → HoldsAreas (now (few .entry)) (now (areas .entry)) (now (states .entry)) (stateOf earlier) → r ≡ true → AreaRow arch earlier 50 (now (b .entry)) (now (few .exit)) (now (areas .exit)) (now (states .exit)) × (insideTable is (directiveOf 50 (now (b .entry))) ≡ false)) ⌝ }
-    ensures { λ r. ⌜ ((known : ℕ → ℕ) → r ≡ false → HoldsAreas (now (few .entry)) (now (areas .entry)) (now (states .entry)) known → HoldsAreas (now (few .exit)) (now (areas .exit)) (now (states .exit)) known) ⌝ }
+    ensures { λ r. ⌜ ((arch : Arch) (is : Rows IgvmInitializationHeader) (earlier : Rows IgvmDirectiveHeader) → HoldsTables (now (masks .entry)) (now (gpas .entry)) (now (sizes .entry)) (now (tables .entry)) n is → HoldsAreas (now (few .entry)) (now (links .entry)) (now (areas .entry)) (now (states .entry)) (stateOf earlier) → r ≡ true → AreaRow arch earlier 50 (now (b .entry)) (now (few .exit)) (now (links .exit)) (now (areas .exit)) (now (states .exit)) × (insideTable is (directiveOf 50 (now (b .entry))) ≡ false)) ⌝ }
+    ensures { λ r. ⌜ ((known : ℕ → ℕ) → r ≡ false → HoldsAreas (now (few .entry)) (now (links .entry)) (now (areas .entry)) (now (states .entry)) known → HoldsAreas (now (few .exit)) (now (links .exit)) (now (areas .exit)) (now (states .exit)) known) ⌝ }
 {
     if !clear_of_tables(b, masks, gpas, sizes, tables, n) {
         return false;
     }
-    insert_row(b, few, areas, states)
+    insert_row(b, few, links, areas, states)
 }
 
 // A row that names an area: its length, its codes and its tests. The first n regions of the arrays tell the page tables.
@@ -241,17 +245,18 @@ pub fn area_row<'a>(
     tables: &'a [bool],
     n: usize,
     few: &mut [u8; area_table::FEW],
-    areas: &mut [u32; area_table::SLOTS],
-    states: &mut [u8; area_table::SLOTS],
+    links: &mut [u16; area_table::LINKS],
+    areas: &mut [u32; area_table::NODES],
+    states: &mut [u8; area_table::NODES],
 ) -> bool
     requires { ⌜ (n ≤ length (now masks)) × (n ≤ length (now gpas)) × (n ≤ length (now sizes)) × (n ≤ length (now tables)) ⌝ }
-    ensures { λ r. ⌜ ((arch : Arch) (is : Rows IgvmInitializationHeader) (earlier : Rows IgvmDirectiveHeader) → HoldsTables (now (masks .entry)) (now (gpas .entry)) (now (sizes .entry)) (now (tables .entry)) n is → HoldsAreas (now (few .entry)) (now (areas .entry)) (now (states .entry)) (stateOf earlier) → r ≡ true → NamedRow arch is earlier kind (now (b .entry)) (now (few .exit)) (now (areas .exit)) (now (states .exit))) ⌝ }
-    ensures { λ r. ⌜ ((known : ℕ → ℕ) → r ≡ false → HoldsAreas (now (few .entry)) (now (areas .entry)) (now (states .entry)) known → HoldsAreas (now (few .exit)) (now (areas .exit)) (now (states .exit)) known) ⌝ }
+    ensures { λ r. ⌜ ((arch : Arch) (is : Rows IgvmInitializationHeader) (earlier : Rows IgvmDirectiveHeader) → HoldsTables (now (masks .entry)) (now (gpas .entry)) (now (sizes .entry)) (now (tables .entry)) n is → HoldsAreas (now (few .entry)) (now (links .entry)) (now (areas .entry)) (now (states .entry)) (stateOf earlier) → r ≡ true → NamedRow arch is earlier kind (now (b .entry)) (now (few .exit)) (now (links .exit)) (now (areas .exit)) (now (states .exit))) ⌝ }
+    ensures { λ r. ⌜ ((known : ℕ → ℕ) → r ≡ false → HoldsAreas (now (few .entry)) (now (links .entry)) (now (areas .entry)) (now (states .entry)) known → HoldsAreas (now (few .exit)) (now (links .exit)) (now (areas .exit)) (now (states .exit)) known) ⌝ }
 {
     match kind {
-        33 => parameter_area_row(b, few, areas, states),
-        34..=43 => parameter_row(b, few, areas, states),
-        50 => parameter_insert_row(b, masks, gpas, sizes, tables, n, few, areas, states),
+        33 => parameter_area_row(b, few, links, areas, states),
+        34..=43 => parameter_row(b, few, links, areas, states),
+        50 => parameter_insert_row(b, masks, gpas, sizes, tables, n, few, links, areas, states),
         _ => false,
     }
 }

@@ -32,17 +32,17 @@ contexts-stay contexts h other level bits = rw (other level bits) (sym (or-false
 
 -- ---- the rows
 
-module _ (s : List ℕ) (few areas states : List ℕ) where
+module _ (s : List ℕ) (few links areas states : List ℕ) where
   -- a parameter in order
-  pub onward-parameter : (c d : Cursor) → HoldsAreas few areas states (stateBefore s (c .row)) → Onward s c d → (len : ℕ) → len ≡ rowLength s (d .row)
+  pub onward-parameter : (c d : Cursor) → HoldsAreas few links areas states (stateBefore s (c .row)) → Onward s c d → (len : ℕ) → len ≡ rowLength s (d .row)
       → d .at + len ≤ length s → d .row < rowCount (headOf s) → (kind : ℕ) → kind ≡ rowKind s (d .row) → isParameter kind ≡ true → (body : List ℕ)
       → body ≡ take len (drop (d .at) s)
-      → ((earlier : Rows IgvmDirectiveHeader) → HoldsAreas few areas states (stateOf earlier) → AreaRow (sheetHeaders s .arch) earlier kind body few areas states)
+      → ((earlier : Rows IgvmDirectiveHeader) → HoldsAreas few links areas states (stateOf earlier) → AreaRow (sheetHeaders s .arch) earlier kind body few links areas states)
       → Onward s c (record { row = d .row + 1; at = d .at + len })
   onward-parameter c d h o len e room l kind k p body part row =
       let earlier = before (d .row - firstDirective s) (sheetHeaders s .directives) in
       let q : body ≡ bodyOf s (d .row) = part ∙ part-body s d (o .read) len e in
-      let a : AreaRow (sheetHeaders s .arch) earlier (rowKind s (d .row)) (bodyOf s (d .row)) few areas states =
+      let a : AreaRow (sheetHeaders s .arch) earlier (rowKind s (d .row)) (bodyOf s (d .row)) few links areas states =
       rw (k, q) at (row earlier (holds-same h (λ x. sym (o .areas x))))
       in
       let param : isParameter (rowKind s (d .row)) ≡ true = rw k at p in
@@ -64,24 +64,24 @@ module _ (s : List ℕ) (few areas states : List ℕ) where
 
 -- ---- rows that name an area
 
-pub areas-none : (s : List ℕ) (c : Cursor) (few areas states : List ℕ) → ReadTo s c → firstDirective s ≤ c .row → HoldsAreas few areas states (stateBefore s (c .row))
-    → AreasPassed s c c few areas states
-areas-none s c few areas states r d h = record { low = omega arith; first = d; read = r; accepted = λ contexts a. a; known = h }
+pub areas-none : (s : List ℕ) (c : Cursor) (few links areas states : List ℕ) → ReadTo s c → firstDirective s ≤ c .row → HoldsAreas few links areas states (stateBefore s (c .row))
+    → AreasPassed s c c few links areas states
+areas-none s c few links areas states r d h = record { low = omega arith; first = d; read = r; accepted = λ contexts a. a; known = h }
 
 -- the table may change, as long as it has the same
-pub areas-kept : (s : List ℕ) (c d : Cursor) (few areas states fewNext areasNext statesNext : List ℕ) → AreasPassed s c d few areas states
-    → HoldsAreas fewNext areasNext statesNext (stateBefore s (d .row)) → AreasPassed s c d fewNext areasNext statesNext
-areas-kept s c d few areas states fewNext areasNext statesNext a h = record { low = a .low; first = a .first; read = a .read; accepted = a .accepted; known = h }
+pub areas-kept : (s : List ℕ) (c d : Cursor) (few links areas states fewNext linksNext areasNext statesNext : List ℕ) → AreasPassed s c d few links areas states
+    → HoldsAreas fewNext linksNext areasNext statesNext (stateBefore s (d .row)) → AreasPassed s c d fewNext linksNext areasNext statesNext
+areas-kept s c d few links areas states fewNext linksNext areasNext statesNext a h = record { low = a .low; first = a .first; read = a .read; accepted = a .accepted; known = h }
 
 -- a row in order
-pub areas-next : (s : List ℕ) (c d : Cursor) (few areas states fewNext areasNext statesNext : List ℕ) → AreasPassed s c d few areas states → (len : ℕ)
+pub areas-next : (s : List ℕ) (c d : Cursor) (few links areas states fewNext linksNext areasNext statesNext : List ℕ) → AreasPassed s c d few links areas states → (len : ℕ)
     → len ≡ rowLength s (d .row) → d .at + len ≤ length s → d .row < rowCount (headOf s) → (kind : ℕ) → kind ≡ rowKind s (d .row) → (body : List ℕ)
     → body ≡ take len (drop (d .at) s)
-    → NamedRow (sheetHeaders s .arch) (sheetHeaders s .initializations) (before (d .row - firstDirective s) (sheetHeaders s .directives)) kind body fewNext areasNext statesNext
-    → AreasPassed s c (record { row = d .row + 1; at = d .at + len }) fewNext areasNext statesNext
-areas-next s c d few areas states fewNext areasNext statesNext a len e room l kind k body part row =
+    → NamedRow (sheetHeaders s .arch) (sheetHeaders s .initializations) (before (d .row - firstDirective s) (sheetHeaders s .directives)) kind body fewNext linksNext areasNext statesNext
+    → AreasPassed s c (record { row = d .row + 1; at = d .at + len }) fewNext linksNext areasNext statesNext
+areas-next s c d few links areas states fewNext linksNext areasNext statesNext a len e room l kind k body part row =
     let q : body ≡ bodyOf s (d .row) = part ∙ part-body s d (a .read) len e in
-    let r : NamedRow (sheetHeaders s .arch) (sheetHeaders s .initializations) (before (d .row - firstDirective s) (sheetHeaders s .directives)) (rowKind s (d .row)) (bodyOf s (d .row)) fewNext areasNext statesNext =
+    let r : NamedRow (sheetHeaders s .arch) (sheetHeaders s .initializations) (before (d .row - firstDirective s) (sheetHeaders s .directives)) (rowKind s (d .row)) (bodyOf s (d .row)) fewNext linksNext areasNext statesNext =
     rw (k, q) at row
     in
     let low = a .low in
@@ -99,9 +99,9 @@ areas-next s c d few areas states fewNext areasNext statesNext a len e room l ki
       known = holds-same (r .row .known) (λ x. sym (state-more s (d .row) first x));
     })
 
-pub areas-onward : (s : List ℕ) (from c d : Cursor) (few areas states : List ℕ) → AreasPassed s from c few areas states → Onward s c d
-    → AreasPassed s from d few areas states
-areas-onward s from c d few areas states a o =
+pub areas-onward : (s : List ℕ) (from c d : Cursor) (few links areas states : List ℕ) → AreasPassed s from c few links areas states → Onward s c d
+    → AreasPassed s from d few links areas states
+areas-onward s from c d few links areas states a o =
     let low = a .low in
     let more = o .low in
     record {
@@ -113,15 +113,15 @@ areas-onward s from c d few areas states a o =
     }
 
 -- rows that name an area, and rows behind them that name none
-pub named-turn : (s : List ℕ) (c d e : Cursor) (next few areas states : List ℕ) → AreasPassed s c d few areas states
-    → PlainPassed s d e next → NamedAccepted s e next few areas states
-named-turn s c d e next few areas states a p =
+pub named-turn : (s : List ℕ) (c d e : Cursor) (next few links areas states : List ℕ) → AreasPassed s c d few links areas states
+    → PlainPassed s d e next → NamedAccepted s e next few links areas states
+named-turn s c d e next few links areas states a p =
     record { rows = p .rows; known = holds-same (a .known) (λ x. sym (p .areas x)); masks = p .masks }
 
 -- ---- where the pass begins
 
 pub named-first : (s : List ℕ) (c : Cursor) (contexts : List ℕ) → PlainAccepted s c contexts
-    → NamedAccepted s c contexts (replicate 1024 0) (replicate 1088 0) (replicate 1088 0)
+    → NamedAccepted s c contexts (replicate 1024 0) (replicate 3074 0) (replicate 1025 0) (replicate 1025 0)
 named-first s c contexts a = record { rows = a .rows; known = holds-same holds-none (λ x. sym (a .areas x)); masks = a .masks }
 
 module _ (s : List ℕ) (c : Cursor) (e : c .row ≡ firstDirective s) where

@@ -49,12 +49,12 @@ pub record PlainPassed (s : List ℕ) (c d : Cursor) (next : List ℕ) : Type 0 
   pub masks : length next ≡ 3
 
 -- from one cursor to a later one, past rows that name an area: the masks are as they were, and the table of areas has what the rows so far tell
-pub record AreasPassed (s : List ℕ) (c d : Cursor) (few areas states : List ℕ) : Type 0 where
+pub record AreasPassed (s : List ℕ) (c d : Cursor) (few links areas states : List ℕ) : Type 0 where
   pub low : c .row ≤ d .row
   pub first : firstDirective s ≤ d .row
   pub read : ReadTo s d
   pub accepted : (contexts : List ℕ) → DirectivesAccepted s c contexts → DirectivesAccepted s d contexts
-  pub known : HoldsAreas few areas states (stateBefore s (d .row))
+  pub known : HoldsAreas few links areas states (stateBefore s (d .row))
 
 -- no directive row before the cursor's has a fault, and none names an area
 pub record PlainAccepted (s : List ℕ) (c : Cursor) (contexts : List ℕ) : Type 0 where
@@ -63,9 +63,9 @@ pub record PlainAccepted (s : List ℕ) (c : Cursor) (contexts : List ℕ) : Typ
   pub masks : length contexts ≡ 3
 
 -- no directive row before the cursor's has a fault, and the table of areas has what these rows tell
-pub record NamedAccepted (s : List ℕ) (c : Cursor) (contexts few areas states : List ℕ) : Type 0 where
+pub record NamedAccepted (s : List ℕ) (c : Cursor) (contexts few links areas states : List ℕ) : Type 0 where
   pub rows : DirectivesAccepted s c contexts
-  pub known : HoldsAreas few areas states (stateBefore s (c .row))
+  pub known : HoldsAreas few links areas states (stateBefore s (c .row))
   pub masks : length contexts ≡ 3
 
 -- some of the first n regions has a VP index other than 0, or no context

@@ -89,11 +89,12 @@ fn past_parameters(
     from: Cursor,
     end: usize,
     few: &[u8; area_table::FEW],
-    areas: &[u32; area_table::SLOTS],
-    states: &[u8; area_table::SLOTS],
+    links: &[u16; area_table::LINKS],
+    areas: &[u32; area_table::NODES],
+    states: &[u8; area_table::NODES],
 ) -> Cursor
     requires { ⌜ (bodiesAt (headOf (now s)) ≤ length (now s)) × ReadTo (now s) from × (firstDirective (now s) ≤ from .row) × (end ≡ rowCount (headOf (now s))) ⌝ }
-    requires { ⌜ HoldsAreas (now few) (now areas) (now states) (stateBefore (now s) (from .row)) ⌝ }
+    requires { ⌜ HoldsAreas (now few) (now links) (now areas) (now states) (stateBefore (now s) (from .row)) ⌝ }
     ensures { λ r. ⌜ Onward (now (s .entry)) from r ⌝ }
 {
     let mut c = from;
@@ -107,7 +108,7 @@ fn past_parameters(
         if !directives::is_parameter(sheet::kind_at(s, k)) {
             return c;
         }
-        if !directive_row::parameter_row(sheet::part(s, at, len), few, areas, states) {
+        if !directive_row::parameter_row(sheet::part(s, at, len), few, links, areas, states) {
             return c;
         }
         c = Cursor {
@@ -125,15 +126,16 @@ fn past_uses(
     from: Cursor,
     end: usize,
     few: &[u8; area_table::FEW],
-    areas: &[u32; area_table::SLOTS],
-    states: &[u8; area_table::SLOTS],
+    links: &[u16; area_table::LINKS],
+    areas: &[u32; area_table::NODES],
+    states: &[u8; area_table::NODES],
 ) -> Cursor
     requires { ⌜ (bodiesAt (headOf (now s)) ≤ length (now s)) × ReadTo (now s) from × (firstDirective (now s) ≤ from .row) × (end ≡ rowCount (headOf (now s))) ⌝ }
-    requires { ⌜ HoldsAreas (now few) (now areas) (now states) (stateBefore (now s) (from .row)) ⌝ }
+    requires { ⌜ HoldsAreas (now few) (now links) (now areas) (now states) (stateBefore (now s) (from .row)) ⌝ }
     ensures { λ r. ⌜ Onward (now (s .entry)) from r ⌝ }
 {
     if directives::is_parameter(kind) {
-        return past_parameters(s, from, end, few, areas, states);
+        return past_parameters(s, from, end, few, links, areas, states);
     }
     from
 }
@@ -149,13 +151,14 @@ fn past_area_rows<'a>(
     tables: &'a [bool],
     n: usize,
     few: &mut [u8; area_table::FEW],
-    areas: &mut [u32; area_table::SLOTS],
-    states: &mut [u8; area_table::SLOTS],
+    links: &mut [u16; area_table::LINKS],
+    areas: &mut [u32; area_table::NODES],
+    states: &mut [u8; area_table::NODES],
 ) -> Cursor
     requires { ⌜ (bodiesAt (headOf (now s)) ≤ length (now s)) × ReadTo (now s) from × (firstDirective (now s) ≤ from .row) × (end ≡ rowCount (headOf (now s))) ⌝ }
     requires { ⌜ ((n ≤ length (now masks)) × (n ≤ length (now gpas)) × (n ≤ length (now sizes)) × (n ≤ length (now tables))) × HoldsTables (now masks) (now gpas) (now sizes) (now tables) n (sheetHeaders (now s) .initializations) ⌝ }
-    requires { ⌜ HoldsAreas (now few) (now areas) (now states) (stateBefore (now s) (from .row)) ⌝ }
-    ensures { λ r. ⌜ AreasPassed (now (s .entry)) from r (now (few .exit)) (now (areas .exit)) (now (states .exit)) ⌝ }
+    requires { ⌜ HoldsAreas (now few) (now links) (now areas) (now states) (stateBefore (now s) (from .row)) ⌝ }
+    ensures { λ r. ⌜ AreasPassed (now (s .entry)) from r (now (few .exit)) (now (links .exit)) (now (areas .exit)) (now (states .exit)) ⌝ }
 {
     let mut c = from;
     while c.row < end {
@@ -175,6 +178,7 @@ fn past_area_rows<'a>(
             tables,
             n,
             few,
+            links,
             areas,
             states,
         ) {
@@ -184,7 +188,7 @@ fn past_area_rows<'a>(
             row: k + 1,
             at: at + len,
         };
-        c = past_uses(s, kind, next, end, few, areas, states);
+        c = past_uses(s, kind, next, end, few, links, areas, states);
     }
     c
 }
@@ -202,18 +206,32 @@ fn past_named<'a>(
     n: usize,
     contexts: &mut [u32; 3],
     few: &mut [u8; area_table::FEW],
-    areas: &mut [u32; area_table::SLOTS],
-    states: &mut [u8; area_table::SLOTS],
+    links: &mut [u16; area_table::LINKS],
+    areas: &mut [u32; area_table::NODES],
+    states: &mut [u8; area_table::NODES],
 ) -> Cursor
     requires { ⌜ (bodiesAt (headOf (now s)) ≤ length (now s)) × (end ≡ rowCount (headOf (now s))) × (x64 ≡ isX64 (sheetHeaders (now s) .arch)) ⌝ }
     requires { ⌜ ((n ≤ length (now masks)) × (n ≤ length (now gpas)) × (n ≤ length (now sizes)) × (n ≤ length (now tables))) × HoldsTables (now masks) (now gpas) (now sizes) (now tables) n (sheetHeaders (now s) .initializations) ⌝ }
-    requires { ⌜ NamedAccepted (now s) from (now contexts) (now few) (now areas) (now states) ⌝ }
+    requires { ⌜ NamedAccepted (now s) from (now contexts) (now few) (now links) (now areas) (now states) ⌝ }
     ensures { λ r. ⌜ DirectivesAccepted (now (s .entry)) r (now (contexts .exit)) × (length (now (contexts .exit)) ≡ 3) ⌝ }
 {
     let mut c = from;
     while c.row < end {
         let k = c.row;
-        let d = past_area_rows(s, c, end, masks, gpas, sizes, tables, n, few, areas, states);
+        let d = past_area_rows(
+            s,
+            c,
+            end,
+            masks,
+            gpas,
+            sizes,
+            tables,
+            n,
+            few,
+            links,
+            areas,
+            states,
+        );
         c = past_plain(s, d, end, x64, contexts);
         if c.row == k {
             return c;
@@ -241,8 +259,9 @@ fn past_areas<'a>(
     ensures { λ r. ⌜ DirectivesAccepted (now (s .entry)) r (now (contexts .exit)) × (length (now (contexts .exit)) ≡ 3) ⌝ }
 {
     let mut few: [u8; area_table::FEW] = [0; area_table::FEW];
-    let mut areas: [u32; area_table::SLOTS] = [0; area_table::SLOTS];
-    let mut states: [u8; area_table::SLOTS] = [0; area_table::SLOTS];
+    let mut links: [u16; area_table::LINKS] = [0; area_table::LINKS];
+    let mut areas: [u32; area_table::NODES] = [0; area_table::NODES];
+    let mut states: [u8; area_table::NODES] = [0; area_table::NODES];
     past_named(
         s,
         from,
@@ -255,6 +274,7 @@ fn past_areas<'a>(
         n,
         contexts,
         &mut few,
+        &mut links,
         &mut areas,
         &mut states,
     )

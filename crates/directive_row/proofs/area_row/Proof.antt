@@ -25,21 +25,21 @@ parameter-row-requires c κs = search needs
 
 -- src/lib.rt:240:1
 returns : tie.Need-returns
-returns c = (λ arch is earlier h k e. area-named arch is earlier _ _ _ _ _ (c .before .before .before .before .match .keys1) (c .parameter-area-row .ensures .0 arch earlier k e), c .parameter-area-row .ensures .1)
+returns c = (λ arch is earlier h k e. area-named arch is earlier _ _ _ _ _ _ (c .before .before .before .before .before .match .keys1) (c .parameter-area-row .ensures .0 arch earlier k e), c .parameter-area-row .ensures .1)
 
 -- src/lib.rt:240:1
 returns-2 : tie.Need-returns-2
-returns-2 c = (λ arch is earlier h k e. let (row, table) = c .parameter-insert-row .ensures .0 arch is earlier h k e in insert-named arch is earlier _ _ _ _ _ (c .before .before .before .before .match .keys2) row table, c .parameter-insert-row .ensures .1)
+returns-2 c = (λ arch is earlier h k e. let (row, table) = c .parameter-insert-row .ensures .0 arch is earlier h k e in insert-named arch is earlier _ _ _ _ _ _ (c .before .before .before .before .before .match .keys2) row table, c .parameter-insert-row .ensures .1)
 
 -- src/lib.rt:240:1
 returns-3 : tie.Need-returns-3
 returns-3 c =
-    let k = c .before .before .before .before .before .before .before .before .before .before .before .before .args .kind in
-    let r = c .before .before .before .before .before .before .match .rest in
+    let k = c .before .before .before .before .before .before .before .before .before .before .before .before .before .args .kind in
+    let r = c .before .before .before .before .before .before .before .match .rest in
     let l : 34 ≤ k = omega (arith, r) in
     let h : k ≤ 43 = omega arith in
     let p = is-parameter k l h in
-    (λ arch is earlier t q e. parameter-named arch is earlier _ p _ _ _ _ (c .parameter-row .ensures arch earlier _ p q e), λ known e h. h)
+    (λ arch is earlier t q e. parameter-named arch is earlier _ p _ _ _ _ _ (c .parameter-row .ensures arch earlier _ p q e), λ known e h. h)
 
 -- src/lib.rt:244:1
 returns-4 : tie.Need-returns-4

@@ -51,11 +51,11 @@ put-requires c κs = search needs
 -- src/lib.rt:171:1
 returns-4 : tie.Need-returns-4
 returns-4 c =
-    let u = c .before .before .before .before .before .before .before .before .before .before .before .before .u32-at .ensures in
-    let page = sym (ap onPage (c .before .before .before .before .before .before .before .before .before .before .before .u64-at .ensures)) ∙ sym (c .before .before .before .before .before .before .before .before .before .before .on-page .ensures) ∙ not-false _ (c .before .before .before .before .before .before .before .before .before .if2 .left) in
-    let state = sym (c .before .before .before .before .before .state-of .ensures) ∙ c .before .before .before .before .if3 .left in (
+    let u = c .before .before .before .before .before .before .before .before .before .before .before .before .before .before .u32-at .ensures in
+    let page = sym (ap onPage (c .before .before .before .before .before .before .before .before .before .before .before .before .before .u64-at .ensures)) ∙ sym (c .before .before .before .before .before .before .before .before .before .before .before .before .on-page .ensures) ∙ not-false _ (c .before .before .before .before .before .before .before .before .before .before .before .if2 .left) in
+    let state = sym (c .before .before .before .before .before .before .state-of .ensures) ∙ c .before .before .before .before .before .if3 .left in (
       λ arch earlier h e.
-          insert-area earlier _ (rw u at (table-says _ _ _ earlier _ 1 h state (omega arith))) arch _ _ _ (c .before .before .before .before .before .before .before .before .before .before .before .before .before .if1 .left) page (rw u at (c .put .ensures (stateOf earlier) h)),
+          insert-area earlier _ (rw u at (table-says _ _ _ _ earlier _ 1 h state (omega arith))) arch _ _ _ _ (c .before .before .before .before .before .before .before .before .before .before .before .before .before .before .before .if1 .left) page (rw u at (c .put .ensures (stateOf earlier) h)),
       λ known e h. absurd (false≢true (sym e)),
     )
 

@@ -41,12 +41,12 @@ put-requires c κs = search needs
 -- src/lib.rt:136:1
 returns-3 : tie.Need-returns-3
 returns-3 c =
-    let u = c .before .before .before .before .before .before .before .before .before .u32-at .ensures in
-    let state = sym (c .before .before .before .before .before .state-of .ensures) ∙ c .before .before .before .before .if2 .left in
-    let sound = c .before .before .before .before .before .before .before .before .before .before .before .parameter-area .ensures .0 in
-    let t = not-false _ (c .before .before .before .before .before .before .before .before .before .before .if1 .left) in (
+    let u = c .before .before .before .before .before .before .before .before .before .before .before .u32-at .ensures in
+    let state = sym (c .before .before .before .before .before .before .state-of .ensures) ∙ c .before .before .before .before .before .if2 .left in
+    let sound = c .before .before .before .before .before .before .before .before .before .before .before .before .before .parameter-area .ensures .0 in
+    let t = not-false _ (c .before .before .before .before .before .before .before .before .before .before .before .before .if1 .left) in (
       λ arch earlier h e.
-          area-row earlier _ (rw u at (table-says _ _ _ earlier _ 0 h state (omega arith))) arch _ _ _ (sound arch t) (rw u at (c .put .ensures (stateOf earlier) h)),
+          area-row earlier _ (rw u at (table-says _ _ _ _ earlier _ 0 h state (omega arith))) arch _ _ _ _ (sound arch t) (rw u at (c .put .ensures (stateOf earlier) h)),
       λ known e h. absurd (false≢true (sym e)),
     )
 

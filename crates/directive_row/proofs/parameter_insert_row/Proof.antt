@@ -22,7 +22,7 @@ insert-row-requires c κs = search needs
 
 -- src/lib.rt:219:1
 returns-2 : tie.Need-returns-2
-returns-2 c = (λ arch is earlier h k e. (c .insert-row .ensures .0 arch earlier k e, c .before .before .before .before .before .clear-of-tables .ensures is h (not-false _ (c .before .before .before .before .if1 .left))), c .insert-row .ensures .1)
+returns-2 c = (λ arch is earlier h k e. (c .insert-row .ensures .0 arch earlier k e, c .before .before .before .before .before .before .clear-of-tables .ensures is h (not-false _ (c .before .before .before .before .before .if1 .left))), c .insert-row .ensures .1)
 
 pub parameter-insert-row-spec : {M : Type 1} → statement M
 parameter-insert-row-spec =

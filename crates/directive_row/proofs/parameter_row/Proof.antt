@@ -25,7 +25,7 @@ state-of-requires c κs = search needs
 
 -- src/lib.rt:156:1
 returns-2 : tie.Need-returns-2
-returns-2 c = λ arch earlier kind k h e. parameter-area kind k _ earlier (rw (c .before .u32-at .ensures) at (table-says _ _ _ earlier _ 1 h (sym (c .state-of .ensures) ∙ eqb-true _ 1 e) (omega arith))) arch _ _ _ (c .before .before .if1 .left) h
+returns-2 c = λ arch earlier kind k h e. parameter-area kind k _ earlier (rw (c .before .u32-at .ensures) at (table-says _ _ _ _ earlier _ 1 h (sym (c .state-of .ensures) ∙ eqb-true _ 1 e) (omega arith))) arch _ _ _ _ (c .before .before .if1 .left) h
 
 pub parameter-row-spec : {M : Type 1} → statement M
 parameter-row-spec = tie.close (tie.spec returns u32-at-requires state-of-requires returns-2)

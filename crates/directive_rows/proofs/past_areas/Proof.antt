@@ -8,7 +8,7 @@ use Rattle.directive_rows.proofs.past_named.Reads as past-named-reads
 
 -- src/lib.rt:465:5
 past-named-requires : tie.Need-past-named-requires
-past-named-requires c κs = let p = c .before .before .before .before .before .before .before .before .before .pre in (p .0, (p .1 .0, named-first _ _ _ (p .1 .1)))
+past-named-requires c κs = let p = c .before .before .before .before .before .before .before .before .before .before .pre in (p .0, (p .1 .0, named-first _ _ _ (p .1 .1)))
 
 -- src/lib.rt:445:1
 returns : tie.Need-returns

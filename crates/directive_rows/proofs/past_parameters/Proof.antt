@@ -19,10 +19,10 @@ use Rattle.sheet.proofs.length_at.Reads as length-at-reads
 use Rattle.sheet.proofs.part.Reads as part-reads
 
 abbrev Inv-loop : tie.InvT-loop
-Inv-loop s end few areas states c₀ c = Onward s c₀ c
+Inv-loop s end few links areas states c₀ c = Onward s c₀ c
 
 abbrev μ-loop : tie.MeasureT-loop
-μ-loop s end few areas states c₀ c = end - c .row
+μ-loop s end few links areas states c₀ c = end - c .row
 
 -- src/lib.rt:348:5
 -- the row's entry lies in the table
@@ -69,12 +69,12 @@ returns-3 : tie.Need-returns-3 Inv-loop μ-loop
 returns-3 c = c .before .before .before .before .before .before .before .before .before .before .loop .inv
 
 -- src/lib.rt:362:18
-add-t12 : tie.Need-add-t12 Inv-loop μ-loop
-add-t12 c = let l = c .before .before .before .before .before .before .before .before .if1 .taken in omega arith
+add-t13 : tie.Need-add-t13 Inv-loop μ-loop
+add-t13 c = let l = c .before .before .before .before .before .before .before .before .if1 .taken in omega arith
 
 -- src/lib.rt:363:17
-add-t13 : tie.Need-add-t13 Inv-loop μ-loop
-add-t13 c = let r = c .before .before .before .before .before .before .before .before .before .before .loop .inv .read .room in let e = c .before .before .before .before .before .before .before .length-at .ensures .1 in omega arith
+add-t14 : tie.Need-add-t14 Inv-loop μ-loop
+add-t14 c = let r = c .before .before .before .before .before .before .before .before .before .before .loop .inv .read .room in let e = c .before .before .before .before .before .before .before .length-at .ensures .1 in omega arith
 
 -- src/lib.rt:348:5
 loop-less : tie.Need-loop-less Inv-loop μ-loop
@@ -87,7 +87,7 @@ loop-again c =
     let l = c .before .before .before .before .before .before .before .before .if1 .taken in
     let r = c .before .before .before .before .before .before .before .before .before .before .loop .inv .read .room in
     let p = sym (c .before .before .before .before .is-parameter .ensures) ∙ not-false _ (c .before .before .before .if3 .left) in
-    onward-parameter _ _ _ _ _ _ (st .pre .1) (c .before .before .before .before .before .before .before .before .before .before .loop .inv) _ (c .before .before .before .before .before .before .before .length-at .ensures .0) (omega arith) (omega (arith, st .pre .0)) _ (c .before .before .before .before .before .kind-at .ensures) p _ (c .before .before .part .ensures)
+    onward-parameter _ _ _ _ _ _ _ (st .pre .1) (c .before .before .before .before .before .before .before .before .before .before .loop .inv) _ (c .before .before .before .before .before .before .before .length-at .ensures .0) (omega arith) (omega (arith, st .pre .0)) _ (c .before .before .before .before .before .kind-at .ensures) p _ (c .before .before .part .ensures)
     (λ earlier h. c .before .parameter-row .ensures _ earlier _ p h (not-false _ (c .if4 .left)))
 
 -- src/lib.rt:335:1
@@ -110,8 +110,8 @@ past-parameters-spec =
     part-requires
     parameter-row-requires
     returns-3
-    add-t12
     add-t13
+    add-t14
     loop-less
     loop-again
     returns-4)
