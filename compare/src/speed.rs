@@ -30,10 +30,12 @@ enum Side {
     Bytes,
     /// `relocations` on a file that stands ready
     Alone,
+    /// the library's verdict on the same bytes
+    Verdict,
 }
-use Side::{Alone, Bytes, Library, Plain, Ready};
+use Side::{Alone, Bytes, Library, Plain, Ready, Verdict};
 
-const SIDES: [(&str, Side); 5] = [("library", Library), ("plain", Plain), ("rust", Ready), ("bytes", Bytes), ("alone", Alone)];
+const SIDES: [(&str, Side); 6] = [("library", Library), ("plain", Plain), ("rust", Ready), ("bytes", Bytes), ("alone", Alone), ("verdict", Verdict)];
 
 /// What is asked of an image.
 #[derive(Clone, Copy, PartialEq, Eq)]
@@ -63,7 +65,7 @@ pub fn run(calls: &Calls, settings: &Settings) -> Result<(), String> {
         return Err("no such case, or no such side".into());
     }
     println!("nanoseconds of a call, the best of {} rounds; a ratio is the library's time to the one before it", settings.rounds);
-    let columns = ["rows", "bytes", "library", "per row", "plain", "ratio", "rust", "ratio", "from bytes", "ratio", "alone", "ratio"];
+    let columns = ["rows", "bytes", "library", "per row", "plain", "ratio", "rust", "ratio", "from bytes", "ratio", "alone", "ratio", "verdict", "ratio"];
     println!("{:<24}{}", "case", columns.map(|column| format!("{column:>11}")).concat());
     for case in &cases {
         case.check();
@@ -122,10 +124,10 @@ impl Case {
         }
     }
 
-    /// `relocations` alone is no side of a verdict, and plain Rust has no region list.
+    /// `relocations` alone, and the verdict before it, are no sides of a verdict, and plain Rust has no region list.
     fn has(&self, side: Side) -> bool {
         match side {
-            Alone => self.question == Relocations,
+            Alone | Verdict => self.question == Relocations,
             Plain => self.question != Relocations,
             Library | Ready | Bytes => true,
         }
@@ -161,6 +163,11 @@ impl Case {
                 self.ask(calls, &mut lent);
                 time(vec![(); times], |()| assert_eq!(self.ask(calls, &mut lent), self.number()))
             }
+            Verdict => {
+                let sheet = black_box(&self.sheet[..]);
+                (calls.verdict)(sheet, 0);
+                time(vec![(); times], |()| assert_eq!((calls.verdict)(black_box(sheet), 0), self.number()))
+            }
             Plain => {
                 let _ = self.plain();
                 time(vec![(); times], |()| self.plain())
@@ -192,7 +199,7 @@ impl Case {
         let column = |number: Option<f64>, digits: usize| number.map_or(format!("{:>11}", "-"), |n| format!("{n:>11.digits$}"));
         let mut line = format!("{:<24}{rows:>11}{:>11}", self.name, self.sheet.len());
         line += &(column(of(Library), 0) + &column(of(Library).map(|least| least / rows as f64), 1));
-        for side in [Plain, Ready, Bytes, Alone] {
+        for side in [Plain, Ready, Bytes, Alone, Verdict] {
             let ratio = of(Library).zip(of(side)).map(|(library, other)| library / other);
             line += &(column(of(side), 0) + &column(ratio, 2));
         }
