@@ -37,7 +37,8 @@ use Rattle.platform_rows.specs.Accepted.{PlatformsAccepted, HoldsCca}
 use Rattle.initialization_rows.specs.Accepted.{InitializationsAccepted}
 use Rattle.directive_rows.specs.Accepted.{firstDirective, DirectivesAccepted, anyLacks}
 use Rattle.directive_row.specs.Sound.{HoldsTables}
-use Rattle.acceptance.specs.Kept.{Kept, RowsAccepted, ListsAccepted}
+use Rattle.keep.specs.Kept.{Kept}
+use Rattle.acceptance.specs.Accepted.{RowsAccepted, ListsAccepted}
 
 -- the table lies in the sheet
 pub table-room : (s : List ℕ) → isFault (startFault limits s) ≡ false → bodiesAt (headOf s) ≤ length s

@@ -14,7 +14,7 @@ ghost use Rattle.initializations.specs.Record.{regionsIn, HoldsRows};
 ghost use Rattle.initialization_rows.specs.Accepted.{InitializationsAccepted};
 ghost use Rattle.platform_rows.specs.Accepted.{PlatformsAccepted};
 ghost use Rattle.directive_rows.specs.Accepted.{firstDirective, DirectivesAccepted};
-ghost use Rattle.acceptance.specs.Kept.{RowsAccepted, ListsAccepted};
+ghost use Rattle.acceptance.specs.Accepted.{RowsAccepted, ListsAccepted};
 use sheet::Cursor;
 
 // The first row that was not passed, how many regions the rows passed have, and whether all rows are in order.

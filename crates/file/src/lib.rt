@@ -73,7 +73,7 @@ impl IgvmFile {
         let start = sheet::start_fault(s);
         if start.is_fault() {
             return IgvmFile {
-                verdict: judge::refused(start.in_row(0)),
+                verdict: validation::refused(start.in_row(0)),
             };
         }
         let head = SheetHead::new(s);

@@ -4,94 +4,13 @@ ghost use mathlib.Core.Bool.{false};
 ghost use mathlib.Core.List.{[], _∷_};
 ghost use Prim.Native.Nat.{_≤_};
 ghost use lib.ListN.{length};
-ghost use Rattle.igvm_defs.specs.Refusals.{noRefusal, isFault, isRefusal};
+ghost use Rattle.igvm_defs.specs.Refusals.{isFault, isRefusal};
 ghost use Rattle.sheet.specs.Head.{limits, headOf, startFault};
-ghost use Rattle.sheet.specs.Walk.{ReadTo};
 ghost use Rattle.initializations.specs.Record.{regionsIn};
-ghost use Rattle.directive_rows.specs.Accepted.{firstDirective, DirectivesAccepted};
 ghost use Rattle.answers.specs.Verdict.{verdictOf, verdictRefusal};
-ghost use Rattle.acceptance.specs.Kept.{Kept};
-use answers::Verdict;
-use igvm_defs::Refusal;
-use sheet::Cursor;
+ghost use Rattle.keep.specs.Kept.{Kept};
 use sheet::SheetHead;
-
-// The answer to a file that is refused.
-pub fn refused(refusal: Refusal) -> Verdict
-    ensures { λ r. ⌜ r ≡ record { refusal = refusal; platforms = 0; initializations = 0; directives = 0 } ⌝ }
-{
-    Verdict {
-        refusal,
-        platforms: 0,
-        initializations: 0,
-        directives: 0,
-    }
-}
-
-fn accepted(head: SheetHead) -> Verdict
-    ensures { λ r. ⌜ r ≡ record { refusal = noRefusal; platforms = head .platforms; initializations = head .initializations; directives = head .directives } ⌝ }
-{
-    Verdict {
-        refusal: Refusal::NONE,
-        platforms: head.platforms as u64,
-        initializations: head.initializations as u64,
-        directives: head.directives as u64,
-    }
-}
-
-// The verdict, and how many regions an accepted file has.
-pub struct Judged {
-    pub verdict: Verdict,
-    pub count: usize,
-}
-
-fn kept_contexts(contexts: &[u32; 3]) -> [u32; 3]
-    ensures { λ r. ⌜ r ≡ now (contexts .entry) ⌝ }
-{
-    *contexts
-}
-
-fn keep_contexts(contexts: &mut [u32; 3], found: [u32; 3])
-    ensures { λ _. ⌜ now (contexts .exit) ≡ found ⌝ }
-{
-    *contexts = found;
-}
-
-// By the passes over the headers, where the rows before the cursor were read and the directive rows among them are in order.
-fn judge_from<'a>(
-    s: &'a [u8],
-    head: SheetHead,
-    from: Cursor,
-    masks: &'a mut [u32],
-    gpas: &'a mut [u64],
-    sizes: &'a mut [u64],
-    vps: &'a mut [u16],
-    vtls: &'a mut [u8],
-    tables: &'a mut [bool],
-    rows: &'a mut [u16],
-    contexts: &mut [u32; 3],
-) -> Judged
-    requires { ⌜ (isFault (startFault limits (now s)) ≡ false) × (head ≡ headOf (now s)) × ReadTo (now s) from × (firstDirective (now s) ≤ from .row → DirectivesAccepted (now s) from (now contexts)) ⌝ }
-    requires { ⌜ (headOf (now s) .initializations ≤ length (now masks)) × (headOf (now s) .initializations ≤ length (now gpas)) × (headOf (now s) .initializations ≤ length (now sizes)) × (headOf (now s) .initializations ≤ length (now vps)) × (headOf (now s) .initializations ≤ length (now vtls)) × (headOf (now s) .initializations ≤ length (now tables)) × (headOf (now s) .initializations ≤ length (now rows)) ⌝ }
-    ensures { λ r. ⌜ r .verdict ≡ verdictOf limits (now (s .entry)) ⌝ }
-    ensures { λ r. ⌜ (isRefusal (verdictRefusal limits (now (s .entry))) ≡ false → Kept (now (s .entry)) (regionsIn (now (masks .exit)) (now (gpas .exit)) (now (sizes .exit)) (now (vps .exit)) (now (vtls .exit)) (now (tables .exit)) (r .count)) (now (rows .exit)) (now (contexts .exit))) ⌝ }
-{
-    let pass = validation::validate_from(s, head, from, kept_contexts(contexts));
-    let refusal = pass.refusal;
-    if refusal.is_refusal() {
-        return Judged {
-            verdict: refused(refusal),
-            count: 0,
-        };
-    }
-    let found = pass.contexts;
-    keep_contexts(contexts, found);
-    let count = keep::keep_regions(s, head, masks, gpas, sizes, vps, vtls, tables, rows);
-    Judged {
-        verdict: accepted(head),
-        count,
-    }
-}
+use validation::Judged;
 
 // The verdict on a sheet whose head and table are in order. Of an accepted file the arrays get the regions, each with its row, and the masks those of the contexts.
 pub fn judge<'a>(
@@ -133,11 +52,11 @@ pub fn judge<'a>(
     let size = head.page_size_fault();
     if r.accepted & !size.is_fault() {
         return Judged {
-            verdict: accepted(head),
+            verdict: validation::accepted(head),
             count: r.count,
         };
     }
-    judge_from(
+    validation::judge_from(
         s,
         head,
         r.at,

@@ -18,7 +18,7 @@ use Rattle.sheet.specs.Read.{Readable, sheetRefusal}
 use Rattle.sheet.proofs.Readable.{readable-bounds, sheet-says}
 use Rattle.headers.specs.Headers.{sheetHeaders}
 use Rattle.initializations.specs.declared.RelocRegions.{RelocRegions}
-use Rattle.acceptance.specs.Kept.{Kept}
+use Rattle.keep.specs.Kept.{Kept}
 use Rattle.rules.specs.Relocations.{regionCount, regionAt, pageTableAt}
 use Rattle.rules.specs.declared.IgvmRelocatableRegion.{IgvmRelocatableRegion}
 use Rattle.rules.specs.declared.PageTableRegion.{PageTableRegion}

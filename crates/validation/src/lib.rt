@@ -1,10 +1,11 @@
-// What is wrong with a sheet, by the passes over its headers: from the first row on that is not known to be in order.
+// The verdict by the passes over the headers: what is wrong with a sheet, from the first row on that is not known to be in order, or what is kept of it.
 ghost use mathlib.Core.Path.{_≡_};
 ghost use mathlib.Core.Bool.{false};
 ghost use Prim.Native.Nat.{_-_, _≤_};
+ghost use lib.ListN.{length};
 ghost use Rattle.rows.specs.Below.{anyBelow};
 ghost use Rattle.rows.specs.Rows.{before};
-ghost use Rattle.igvm_defs.specs.Refusals.{isFault, isRefusal};
+ghost use Rattle.igvm_defs.specs.Refusals.{noRefusal, isFault, isRefusal};
 ghost use Rattle.sheet.specs.Head.{limits, headOf, rowCount, startFault};
 ghost use Rattle.sheet.specs.Read.{Readable, sheetRefusal};
 ghost use Rattle.sheet.specs.Walk.{cursorAt, ReadTo};
@@ -12,7 +13,11 @@ ghost use Rattle.headers.specs.Headers.{sheetHeaders};
 ghost use Rattle.rules.specs.Verdict.{directiveFaults};
 ghost use Rattle.directives.specs.Record.{HoldsContexts};
 ghost use Rattle.directive_rows.specs.Accepted.{firstDirective, DirectivesAccepted};
+ghost use Rattle.initializations.specs.Record.{regionsIn};
+ghost use Rattle.answers.specs.Verdict.{verdictOf, verdictRefusal};
+ghost use Rattle.keep.specs.Kept.{Kept};
 ghost use Rattle.validation.specs.Validated.{HeadersPassed, VerdictPassed};
+use answers::Verdict;
 use directive_pass::DirectivesPass;
 use igvm_defs::Refusal;
 use sheet::Cursor;
@@ -71,7 +76,7 @@ fn validate_headers(s: &[u8], head: SheetHead, from: Cursor, contexts: [u32; 3])
 }
 
 // 4 to 34, where no row before the cursor has a fault of reading, and no directive row before it any.
-pub fn validate_from(s: &[u8], head: SheetHead, from: Cursor, contexts: [u32; 3]) -> DirectivesPass
+fn validate_from(s: &[u8], head: SheetHead, from: Cursor, contexts: [u32; 3]) -> DirectivesPass
     requires { ⌜ (isFault (startFault limits (now s)) ≡ false) × (head ≡ headOf (now s)) × ReadTo (now s) from × (firstDirective (now s) ≤ from .row → DirectivesAccepted (now s) from contexts) ⌝ }
     ensures { λ r. ⌜ VerdictPassed (now (s .entry)) (r .refusal) (r .contexts) ⌝ }
 {
@@ -84,4 +89,84 @@ pub fn validate_from(s: &[u8], head: SheetHead, from: Cursor, contexts: [u32; 3]
         return no_contexts(size);
     }
     validate_headers(s, head, from, contexts)
+}
+
+// ---- the verdict
+
+// The answer to a file that is refused.
+pub fn refused(refusal: Refusal) -> Verdict
+    ensures { λ r. ⌜ r ≡ record { refusal = refusal; platforms = 0; initializations = 0; directives = 0 } ⌝ }
+{
+    Verdict {
+        refusal,
+        platforms: 0,
+        initializations: 0,
+        directives: 0,
+    }
+}
+
+// The answer to a file that is accepted.
+pub fn accepted(head: SheetHead) -> Verdict
+    ensures { λ r. ⌜ r ≡ record { refusal = noRefusal; platforms = head .platforms; initializations = head .initializations; directives = head .directives } ⌝ }
+{
+    Verdict {
+        refusal: Refusal::NONE,
+        platforms: head.platforms as u64,
+        initializations: head.initializations as u64,
+        directives: head.directives as u64,
+    }
+}
+
+// The verdict, and how many regions an accepted file has.
+pub struct Judged {
+    pub verdict: Verdict,
+    pub count: usize,
+}
+
+fn kept_contexts(contexts: &[u32; 3]) -> [u32; 3]
+    ensures { λ r. ⌜ r ≡ now (contexts .entry) ⌝ }
+{
+    *contexts
+}
+
+fn keep_contexts(contexts: &mut [u32; 3], found: [u32; 3])
+    ensures { λ _. ⌜ now (contexts .exit) ≡ found ⌝ }
+{
+    *contexts = found;
+}
+
+// The verdict by the passes over the headers, with what was found of an accepted file kept in the lent arrays, where the rows before the cursor were read and the directive rows among them are in order.
+pub fn judge_from<'a>(
+    s: &'a [u8],
+    head: SheetHead,
+    from: Cursor,
+    masks: &'a mut [u32],
+    gpas: &'a mut [u64],
+    sizes: &'a mut [u64],
+    vps: &'a mut [u16],
+    vtls: &'a mut [u8],
+    tables: &'a mut [bool],
+    rows: &'a mut [u16],
+    contexts: &mut [u32; 3],
+) -> Judged
+    requires { ⌜ (isFault (startFault limits (now s)) ≡ false) × (head ≡ headOf (now s)) × ReadTo (now s) from × (firstDirective (now s) ≤ from .row → DirectivesAccepted (now s) from (now contexts)) ⌝ }
+    requires { ⌜ (headOf (now s) .initializations ≤ length (now masks)) × (headOf (now s) .initializations ≤ length (now gpas)) × (headOf (now s) .initializations ≤ length (now sizes)) × (headOf (now s) .initializations ≤ length (now vps)) × (headOf (now s) .initializations ≤ length (now vtls)) × (headOf (now s) .initializations ≤ length (now tables)) × (headOf (now s) .initializations ≤ length (now rows)) ⌝ }
+    ensures { λ r. ⌜ r .verdict ≡ verdictOf limits (now (s .entry)) ⌝ }
+    ensures { λ r. ⌜ (isRefusal (verdictRefusal limits (now (s .entry))) ≡ false → Kept (now (s .entry)) (regionsIn (now (masks .exit)) (now (gpas .exit)) (now (sizes .exit)) (now (vps .exit)) (now (vtls .exit)) (now (tables .exit)) (r .count)) (now (rows .exit)) (now (contexts .exit))) ⌝ }
+{
+    let pass = validate_from(s, head, from, kept_contexts(contexts));
+    let refusal = pass.refusal;
+    if refusal.is_refusal() {
+        return Judged {
+            verdict: refused(refusal),
+            count: 0,
+        };
+    }
+    let found = pass.contexts;
+    keep_contexts(contexts, found);
+    let count = keep::keep_regions(s, head, masks, gpas, sizes, vps, vtls, tables, rows);
+    Judged {
+        verdict: accepted(head),
+        count,
+    }
 }

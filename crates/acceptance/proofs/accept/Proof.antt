@@ -1,4 +1,4 @@
-use Rattle.acceptance.specs.Kept.{ListsAccepted}
+use Rattle.acceptance.specs.Accepted.{ListsAccepted}
 use Rattle.initializations.specs.Record.{regionsIn, HoldsRows}
 use Rattle.sheet.specs.Head.{headOf}
 use Rattle.headers.proofs.HeaderLaws.{sheet-counts}

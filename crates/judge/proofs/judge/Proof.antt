@@ -23,8 +23,8 @@ use Rattle.judge.proofs.judge.Tie as tie
 use Rattle.judge.proofs.judge.Reads as reads
 use Rattle.judge.proofs.judge.Lts as lts
 use Rattle.acceptance.proofs.accept.Reads as accept-reads
-use Rattle.judge.proofs.accepted.Reads as accepted-reads
-use Rattle.judge.proofs.judge_from.Reads as judge-from-reads
+use Rattle.validation.proofs.accepted.Reads as accepted-reads
+use Rattle.validation.proofs.judge_from.Reads as judge-from-reads
 use Rattle.igvm_defs.proofs.Arch.is_x64.Reads as is-x64-reads
 use Rattle.igvm_defs.proofs.Fault.is_fault.Reads as is-fault-reads
 use Rattle.igvm_defs.proofs.IgvmRevision.arch.Reads as arch-reads

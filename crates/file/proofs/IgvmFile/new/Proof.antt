@@ -22,7 +22,7 @@ use Rattle.file.proofs.IgvmFile.new.Reads as reads
 use Rattle.file.proofs.IgvmFile.new.Lts as lts
 use Rattle.file.proofs.judge_few.Reads as judge-few-reads
 use Rattle.file.proofs.judge_many.Reads as judge-many-reads
-use Rattle.judge.proofs.refused.Reads as refused-reads
+use Rattle.validation.proofs.refused.Reads as refused-reads
 use Rattle.igvm_defs.proofs.Fault.in_row.Reads as in-row-reads
 use Rattle.igvm_defs.proofs.Fault.is_fault.Reads as is-fault-reads
 use Rattle.sheet.proofs.SheetHead.new.Reads as new-reads

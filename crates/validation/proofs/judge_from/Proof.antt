@@ -15,14 +15,14 @@ use native.Mathlib.Omega.{arith}
 use mathlib.Core.Bool.{true, false, true≢false, false≢true}
 use mathlib.Core.Path.{_≡_, refl, sym, ap, _∙_}
 use borrow.Author.Needs.{needs}
-use Rattle.judge.proofs.judge_from.Statement.{statement}
-use Rattle.judge.proofs.judge_from.Tie as tie
-use Rattle.judge.proofs.judge_from.Reads as reads
-use Rattle.judge.proofs.judge_from.Lts as lts
-use Rattle.judge.proofs.accepted.Reads as accepted-reads
-use Rattle.judge.proofs.keep_contexts.Reads as keep-contexts-reads
-use Rattle.judge.proofs.refused.Reads as refused-reads
+use Rattle.validation.proofs.judge_from.Statement.{statement}
+use Rattle.validation.proofs.judge_from.Tie as tie
+use Rattle.validation.proofs.judge_from.Reads as reads
+use Rattle.validation.proofs.judge_from.Lts as lts
+use Rattle.validation.proofs.accepted.Reads as accepted-reads
+use Rattle.validation.proofs.keep_contexts.Reads as keep-contexts-reads
+use Rattle.validation.proofs.refused.Reads as refused-reads
 use Rattle.validation.proofs.validate_from.Reads as validate-from-reads
 use Rattle.igvm_defs.proofs.Refusal.is_refusal.Reads as is-refusal-reads
 use Rattle.keep.proofs.keep_regions.Reads as keep-regions-reads
 

@@ -1,4 +1,4 @@
--- What stands after the verdict on an accepted file: its regions, each with its row, and the masks of its contexts.
+-- How far the pass that only accepts has come.
 use Prim.Native.Nat.{ℕ, _+_}
 use mathlib.Core.Bool.{false}
 use mathlib.Core.List.{List}
@@ -12,13 +12,8 @@ use Rattle.rules.specs.Verdict.{platformsRefusal, initializationsRefusal}
 use Rattle.rules.specs.Accepted.{NotRefused}
 use Rattle.headers.specs.Headers.{sheetHeaders}
 use Rattle.initializations.specs.declared.RelocRegions.{RelocRegions}
-use Rattle.initializations.specs.Record.{HoldsRegions, HoldsRows}
-use Rattle.directives.specs.Record.{HoldsContexts}
-
-pub record Kept (s : List ℕ) (held : RelocRegions) (numbers contexts : List ℕ) : Type 0 where
-  pub regions : HoldsRegions held (sheetHeaders s .initializations)
-  pub rows : HoldsRows (headOf s .platforms) numbers held (sheetHeaders s .initializations)
-  pub masks : HoldsContexts contexts (sheetHeaders s .directives)
+use Rattle.initializations.specs.Record.{HoldsRegions}
+use Rattle.keep.specs.Kept.{Kept}
 
 -- none of 1 to 6 and of 8 to 34 applies to the rows, and what was found of them is kept
 pub record RowsAccepted (s : List ℕ) (held : RelocRegions) (numbers contexts : List ℕ) : Type 0 where
