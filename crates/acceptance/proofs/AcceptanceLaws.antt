@@ -36,7 +36,7 @@ use Rattle.directive_pass.proofs.DirectivePass.{directives-end}
 use Rattle.platform_rows.specs.Accepted.{PlatformsAccepted, HoldsCca}
 use Rattle.initialization_rows.specs.Accepted.{InitializationsAccepted}
 use Rattle.directive_rows.specs.Accepted.{firstDirective, DirectivesAccepted, anyLacks}
-use Rattle.directive_row.specs.Sound.{HoldsTables}
+use Rattle.clashes.specs.Clashes.{HoldsTables}
 use Rattle.keep.specs.Kept.{Kept}
 use Rattle.acceptance.specs.Accepted.{RowsAccepted, ListsAccepted}
 

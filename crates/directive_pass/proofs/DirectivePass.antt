@@ -34,7 +34,8 @@ use Rattle.initializations.specs.declared.RelocRegions.{RelocRegions}
 use Rattle.initializations.specs.Record.{entry, anyRegion, HoldsRegions}
 use Rattle.directives.specs.Record.{HoldsContexts, lacksContext, DirectiveStepped, howOf, howNamed, areaNumber}
 use Rattle.directives.proofs.DirectiveRecordLaws.{lacks-says, how-directive, allocates-says, inserts-says}
-use Rattle.directive_pass.specs.Passed.{firstDirective, HoldsTables, DirectivesPassed}
+use Rattle.clashes.specs.Clashes.{HoldsTables}
+use Rattle.directive_pass.specs.Passed.{firstDirective, DirectivesPassed}
 
 -- ---- the directive rows of a readable sheet
 

@@ -14,7 +14,8 @@ ghost use Rattle.rules.specs.Directives.{allocates, inserts, badArea, insideTab
 ghost use Rattle.rules.specs.Verdict.{directiveFaults};
 ghost use Rattle.initializations.specs.Record.{anyRegion, HoldsRegions};
 ghost use Rattle.directives.specs.Record.{HoldsContexts, lacksContext};
-ghost use Rattle.directive_pass.specs.Passed.{firstDirective, HoldsTables, DirectivesPassed};
+ghost use Rattle.clashes.specs.Clashes.{HoldsTables};
+ghost use Rattle.directive_pass.specs.Passed.{firstDirective, DirectivesPassed};
 use directive_header::IgvmDirectiveHeader;
 use igvm_defs::Fault;
 use igvm_defs::Refusal;
@@ -109,7 +110,7 @@ fn inside_table<'a>(
     ensures { λ r. ⌜ ((xs : Rows IgvmInitializationHeader) → HoldsTables (now (masks .entry)) (now (gpas .entry)) (now (sizes .entry)) (now (tables .entry)) n xs → r ≡ insideTable xs h) ⌝ }
 {
     match h {
-        IgvmDirectiveHeader::ParameterInsert(p) => initializations::any_table_holds(
+        IgvmDirectiveHeader::ParameterInsert(p) => clashes::any_table_holds(
             masks,
             gpas,
             sizes,

@@ -18,7 +18,6 @@ use Rattle.directive_header.specs.Directives.{directiveOf}
 use Rattle.rules.specs.Accepted.{ownDirectiveFault}
 use Rattle.rules.specs.Regions.{regionPasses, tableHolds}
 use Rattle.rules.specs.Directives.{allocates, inserts, badArea, insideTable, isContext}
-use Rattle.initializations.specs.Record.{anyTableHolds}
 use Rattle.directives.specs.Record.{namesArea}
 use Rattle.area_table.specs.AreaTable.{HoldsAreas}
 
@@ -57,10 +56,6 @@ stateOf earlier area = areaState (any (allocates area) earlier) (any (inserts ar
 -- with one header more
 unfoldable pub stateAfter : Rows IgvmDirectiveHeader → IgvmDirectiveHeader → ℕ → ℕ
 stateAfter earlier h area = areaState (any (allocates area) earlier || allocates area h) (any (inserts area) earlier || inserts area h)
-
--- the first n regions of the arrays have the page tables of the rows
-abbrev pub HoldsTables : List ℕ → List ℕ → List ℕ → List Bool → ℕ → Rows IgvmInitializationHeader → Type 0
-HoldsTables masks gpas sizes tables n xs = (mask gpa : ℕ) → anyTableHolds mask gpa masks gpas sizes tables n ≡ any (regionPasses (tableHolds mask gpa)) xs
 
 -- a row that names an area, after these directive rows
 pub record AreaRow (arch : Arch) (earlier : Rows IgvmDirectiveHeader) (kind : ℕ) (b few links areas states : List ℕ) : Type 0 where

@@ -13,7 +13,8 @@ ghost use Rattle.directive_header.specs.Fields.{isParameter};
 ghost use Rattle.rules.specs.Directives.{insideTable};
 ghost use Rattle.directive_header.specs.declared.IgvmDirectiveHeader.{IgvmDirectiveHeader};
 ghost use Rattle.area_table.specs.AreaTable.{HoldsAreas};
-ghost use Rattle.directive_row.specs.Sound.{Sound, VbsContext, PlainRow, AreaRow, NamedRow, HoldsTables, stateOf};
+ghost use Rattle.clashes.specs.Clashes.{HoldsTables};
+ghost use Rattle.directive_row.specs.Sound.{Sound, VbsContext, PlainRow, AreaRow, NamedRow, stateOf};
 
 // ---- a row's body
 
@@ -202,7 +203,7 @@ fn clear_of_tables<'a>(
     if b.len() != 16 {
         return false;
     }
-    !initializations::any_table_holds(
+    !clashes::any_table_holds(
         masks,
         gpas,
         sizes,

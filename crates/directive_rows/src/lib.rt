@@ -12,7 +12,7 @@ ghost use Rattle.sheet.specs.Head.{headOf, rowCount, bodiesAt};
 ghost use Rattle.sheet.specs.Walk.{ReadTo};
 ghost use Rattle.headers.specs.Headers.{sheetHeaders};
 ghost use Rattle.area_table.specs.AreaTable.{HoldsAreas};
-ghost use Rattle.directive_row.specs.Sound.{HoldsTables};
+ghost use Rattle.clashes.specs.Clashes.{HoldsTables};
 ghost use Rattle.directive_rows.specs.Accepted.{firstDirective, DirectivesAccepted, Onward, PlainPassed, AreasPassed, PlainAccepted, NamedAccepted, stateBefore, anyLacks};
 use sheet::Cursor;
 

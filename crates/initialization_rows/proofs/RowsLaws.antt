@@ -35,7 +35,8 @@ use Rattle.extents.specs.declared.Reach.{Reach}
 use Rattle.extents.specs.Extents.{apartFrom, Covers}
 use Rattle.extents.proofs.ExtentLaws.{near-overlap, covers-more}
 use Rattle.initializations.specs.declared.RelocRegions.{RelocRegions}
-use Rattle.initializations.specs.Record.{anyTablesShare, anyOverlap, HoldsRegions, stored}
+use Rattle.clashes.specs.Clashes.{anyTablesShare, anyOverlap}
+use Rattle.initializations.specs.Record.{HoldsRegions, stored}
 use Rattle.initializations.proofs.RecordLaws.{Room, Lent, lent-stored, holds-none, rows-none, holds-stored, rows-stored, holds-clashes}
 use Rattle.initialization_row.specs.Row.{InOrder}
 use Rattle.platform_rows.specs.Accepted.{HoldsCca}

@@ -53,7 +53,7 @@ pub fn accept<'a>(
         let f = initialization_row::row_of(sheet::kind_at(s, k), sheet::part(s, at, len), x64, cca);
         let r = f.region;
         let found = f.found;
-        let shares = initializations::any_tables_share(r, masks, tables, n);
+        let shares = clashes::any_tables_share(r, masks, tables, n);
         let overlaps = initializations::any_near_overlap(reach, r, masks, gpas, sizes, n);
         if !f.ok | (found & (shares | overlaps)) {
             return InitializationsReached { at: c, count: n };

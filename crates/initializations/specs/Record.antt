@@ -17,6 +17,7 @@ use Rattle.masks.specs.Masks.{shares}
 use Rattle.platform_header.specs.declared.IgvmPlatformHeader.{IgvmPlatformHeader}
 use Rattle.initialization_header.specs.declared.IgvmInitializationHeader.{IgvmInitializationHeader}
 use Rattle.rules.specs.declared.Region.{Region}
+use Rattle.clashes.specs.Clashes.{anyTablesShare, anyOverlap}
 use Rattle.initializations.specs.declared.RelocRegions.{RelocRegions}
 use Rattle.rules.specs.Regions.{regionOf, regionPasses, tablesShare, overlap}
 use Rattle.rules.specs.Initializations.{wrongArch, withoutCca, refuseBit, initializationFault}
@@ -36,21 +37,6 @@ entry r i =
 -- some region of the record passes
 abbrev pub anyRegion : (Region → Bool) → RelocRegions → Bool
 anyRegion p r = anyBelow (r .count) (λ i. p (entry r i))
-
--- The same for the three tests, over the arrays of the record and how many regions they have.
-
--- some region is a page table, as r is, and shares a bit with it
-abbrev pub anyTablesShare : Region → List ℕ → List Bool → ℕ → Bool
-anyTablesShare r masks tables n = anyBelow n (λ i. r .«page_table» && getD tables i false && shares (r .mask) (getD masks i 0))
-
--- some region shares a bit with r, and an address
-abbrev pub anyOverlap : Region → List ℕ → List ℕ → List ℕ → ℕ → Bool
-anyOverlap r masks gpas sizes n = anyBelow n (λ i. shares (r .mask) (getD masks i 0) && meets (r .gpa) (r .size) (getD gpas i 0) (getD sizes i 0))
-
--- some region is a page table, shares a bit with the mask and contains the address
-abbrev pub anyTableHolds : ℕ → ℕ → List ℕ → List ℕ → List ℕ → List Bool → ℕ → Bool
-anyTableHolds mask gpa masks gpas sizes tables n =
-    anyBelow n (λ i. getD tables i false && shares (getD masks i 0) mask && contains (getD gpas i 0) (getD sizes i 0) gpa)
 
 -- the record has no more regions than there are rows, and a test finds a region in it exactly where a row's region passes
 pub record HoldsRegions (r : RelocRegions) (xs : Rows IgvmInitializationHeader) : Type 0 where

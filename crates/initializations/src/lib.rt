@@ -9,13 +9,13 @@ ghost use Rattle.platform_header.specs.declared.IgvmPlatformHeader.{IgvmPlatfor
 ghost use Rattle.initialization_header.specs.declared.IgvmInitializationHeader.{IgvmInitializationHeader};
 ghost use Rattle.igvm_defs.specs.Refusals.{noFault};
 ghost use Rattle.igvm_defs.specs.Vtls.{vtlNumber};
-ghost use Rattle.masks.specs.Masks.{shares, individualMasks, firstMask};
-ghost use Rattle.addresses.specs.Addresses.{meets};
+ghost use Rattle.masks.specs.Masks.{individualMasks, firstMask};
 ghost use Rattle.platforms.specs.Record.{HoldsPlatforms, lastTypeIsCca};
 ghost use Rattle.rules.specs.Regions.{regionOf};
 ghost use Rattle.rules.specs.Initializations.{validateAddresses, validateRegion, validateTable, validateInitialization, refuseBit};
 ghost use Rattle.extents.specs.Extents.{apartFrom, Covers};
-ghost use Rattle.initializations.specs.Record.{anyTablesShare, anyOverlap, anyTableHolds, policyFault, regionFault, HoldsClashes, InitializationStepped};
+ghost use Rattle.clashes.specs.Clashes.{anyOverlap};
+ghost use Rattle.initializations.specs.Record.{policyFault, regionFault, HoldsClashes, InitializationStepped};
 use extents::Reach;
 use igvm_defs::Arch;
 use igvm_defs::Fault;
@@ -142,50 +142,6 @@ pub struct RelocRegions {
     pub count: usize,
 }
 
-// Some of the first n regions is a page table, as r is, and shares a bit with it.
-pub fn any_tables_share<'a>(r: Region, masks: &'a [u32], tables: &'a [bool], n: usize) -> bool
-    requires { ⌜ (n ≤ length (now masks)) × (n ≤ length (now tables)) ⌝ }
-    ensures { λ s. ⌜ s ≡ anyTablesShare r (now (masks .entry)) (now (tables .entry)) n ⌝ }
-{
-    if !r.page_table {
-        return false;
-    }
-    let mut i = 0;
-    let mut found = false;
-    while i < n {
-        found = found | (tables[i] & masks::shares(r.mask, masks[i]));
-        i += 1;
-    }
-    found
-}
-
-// r shares a bit with the mask, and an address with the size bytes from gpa.
-fn overlaps(r: Region, mask: u32, gpa: u64, size: u64) -> bool
-    ensures { λ s. ⌜ s ≡ (shares (r .mask) mask && meets (r .gpa) (r .size) gpa size) ⌝ }
-{
-    masks::shares(r.mask, mask) & addresses::meets(r.gpa, r.size, gpa, size)
-}
-
-// Some of the first n regions shares a bit with r, and an address.
-pub fn any_overlap<'a>(
-    r: Region,
-    masks: &'a [u32],
-    gpas: &'a [u64],
-    sizes: &'a [u64],
-    n: usize,
-) -> bool
-    requires { ⌜ (n ≤ length (now masks)) × (n ≤ length (now gpas)) × (n ≤ length (now sizes)) ⌝ }
-    ensures { λ s. ⌜ s ≡ anyOverlap r (now (masks .entry)) (now (gpas .entry)) (now (sizes .entry)) n ⌝ }
-{
-    let mut i = 0;
-    let mut found = false;
-    while i < n {
-        found = found | overlaps(r, masks[i], gpas[i], sizes[i]);
-        i += 1;
-    }
-    found
-}
-
 // As `any_overlap`, but for a region apart from what the regions lie within.
 pub fn any_near_overlap<'a>(
     reach: Reach,
@@ -201,32 +157,7 @@ pub fn any_near_overlap<'a>(
     if reach.apart(r) {
         return false;
     }
-    any_overlap(r, masks, gpas, sizes, n)
-}
-
-// Some page table of the first n regions shares a bit with the mask and contains the address.
-pub fn any_table_holds<'a>(
-    masks: &'a [u32],
-    gpas: &'a [u64],
-    sizes: &'a [u64],
-    tables: &'a [bool],
-    n: usize,
-    mask: u32,
-    gpa: u64,
-) -> bool
-    requires { ⌜ (n ≤ length (now masks)) × (n ≤ length (now gpas)) × (n ≤ length (now sizes)) × (n ≤ length (now tables)) ⌝ }
-    ensures { λ r. ⌜ r ≡ anyTableHolds mask gpa (now (masks .entry)) (now (gpas .entry)) (now (sizes .entry)) (now (tables .entry)) n ⌝ }
-{
-    let mut i = 0;
-    let mut found = false;
-    while i < n {
-        found = found
-            | (tables[i]
-                & masks::shares(masks[i], mask)
-                & addresses::contains(gpas[i], sizes[i], gpa));
-        i += 1;
-    }
-    found
+    clashes::any_overlap(r, masks, gpas, sizes, n)
 }
 
 // A region of either kind, where a header has one.
@@ -366,7 +297,7 @@ pub fn check<'a>(
     let new = region_of(h);
     let found = new.found;
     let region = new.region;
-    let shares = any_tables_share(region, masks, tables, n);
+    let shares = clashes::any_tables_share(region, masks, tables, n);
     let overlaps = any_near_overlap(reach, region, masks, gpas, sizes, n);
     let fault = row_fault(found, region_fault(own, shares, overlaps, region), own);
     InitializationStep {

@@ -7,7 +7,7 @@ use Rattle.directive_row.proofs.clear_of_tables.Statement.{statement}
 use Rattle.directive_row.proofs.clear_of_tables.Tie as tie
 use Rattle.directive_row.proofs.clear_of_tables.Reads as reads
 use Rattle.directive_row.proofs.clear_of_tables.Lts as lts
-use Rattle.initializations.proofs.any_table_holds.Reads as any-table-holds-reads
+use Rattle.clashes.proofs.any_table_holds.Reads as any-table-holds-reads
 use Rattle.le.proofs.u32_at.Reads as u32-at-reads
 use Rattle.le.proofs.u64_at.Reads as u64-at-reads
 

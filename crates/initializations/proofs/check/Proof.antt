@@ -16,7 +16,8 @@ use Rattle.rules.specs.Initializations.{validateInitialization, initializationF
 use Rattle.extents.specs.declared.Reach.{Reach}
 use Rattle.extents.specs.Extents.{apartFrom, Covers}
 use Rattle.extents.proofs.ExtentLaws.{near-overlap}
-use Rattle.initializations.specs.Record.{anyTablesShare, anyOverlap, policyFault, regionFault, HoldsClashes}
+use Rattle.clashes.specs.Clashes.{anyTablesShare, anyOverlap}
+use Rattle.initializations.specs.Record.{policyFault, regionFault, HoldsClashes}
 use Rattle.initializations.proofs.FaultLaws.{row-fault, region-ends}
 use Rattle.initializations.proofs.check.Statement.{statement}
 use Rattle.initializations.proofs.check.Tie as tie

@@ -7,9 +7,9 @@ use borrow.Author.Needs.{needs}
 use lib.ListN.{getD}
 use Rattle.rows.specs.Below.{anyBelow}
 use Rattle.rows.proofs.BelowLaws.{any-more}
-use Rattle.initializations.specs.Record.{anyTableHolds}
-use Rattle.initializations.proofs.any_table_holds.Statement.{statement}
-use Rattle.initializations.proofs.any_table_holds.Tie as tie
+use Rattle.clashes.specs.Clashes.{anyTableHolds}
+use Rattle.clashes.proofs.any_table_holds.Statement.{statement}
+use Rattle.clashes.proofs.any_table_holds.Tie as tie
 
 abbrev Inv-loop : tie.InvT-loop
 Inv-loop masks gpas sizes tables n mask gpa i₀ found₀ i found = (i ≤ n) × (found ≡ anyTableHolds mask gpa masks gpas sizes tables i)

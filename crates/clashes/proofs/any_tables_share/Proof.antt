@@ -6,9 +6,9 @@ use borrow.Author.Needs.{needs}
 use borrow.Author.Tests.{not-true, not-false}
 use Rattle.rows.specs.Below.{anyBelow}
 use Rattle.rows.proofs.BelowLaws.{none-any, any-more}
-use Rattle.initializations.specs.Record.{anyTablesShare}
-use Rattle.initializations.proofs.any_tables_share.Statement.{statement}
-use Rattle.initializations.proofs.any_tables_share.Tie as tie
+use Rattle.clashes.specs.Clashes.{anyTablesShare}
+use Rattle.clashes.proofs.any_tables_share.Statement.{statement}
+use Rattle.clashes.proofs.any_tables_share.Tie as tie
 
 abbrev Inv-loop : tie.InvT-loop
 Inv-loop r masks tables n i₀ found₀ i found = (i ≤ n) × (found ≡ anyTablesShare r masks tables i)

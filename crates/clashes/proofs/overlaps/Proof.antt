@@ -1,8 +1,8 @@
 use mathlib.Core.Bool.{Bool, _&&_}
 use mathlib.Core.Path.{ap₂}
 use borrow.Author.Needs.{needs}
-use Rattle.initializations.proofs.overlaps.Statement.{statement}
-use Rattle.initializations.proofs.overlaps.Tie as tie
+use Rattle.clashes.proofs.overlaps.Statement.{statement}
+use Rattle.clashes.proofs.overlaps.Tie as tie
 
 shares-requires : tie.Need-shares-requires
 shares-requires c κs = search needs

@@ -4,9 +4,9 @@ use native.Mathlib.Omega.{arith}
 use borrow.Author.Needs.{needs}
 use Rattle.rows.specs.Below.{anyBelow}
 use Rattle.rows.proofs.BelowLaws.{any-more}
-use Rattle.initializations.specs.Record.{anyOverlap}
-use Rattle.initializations.proofs.any_overlap.Statement.{statement}
-use Rattle.initializations.proofs.any_overlap.Tie as tie
+use Rattle.clashes.specs.Clashes.{anyOverlap}
+use Rattle.clashes.proofs.any_overlap.Statement.{statement}
+use Rattle.clashes.proofs.any_overlap.Tie as tie
 
 abbrev Inv-loop : tie.InvT-loop
 Inv-loop r masks gpas sizes n i₀ found₀ i found = (i ≤ n) × (found ≡ anyOverlap r masks gpas sizes i)
