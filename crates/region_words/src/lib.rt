@@ -100,10 +100,16 @@ fn found_table(s: &[u8], t: usize, end: usize) -> FoundTable
     regions::page_table_of(headers::initialization_at(s, sheet::cursor_at(s, t)))
 }
 
-// Puts the words of the mask's regions into the lent bytes, in header order, and finds its page-table region on the way.
-pub fn put_regions(s: &[u8], head: SheetHead, given: u32, words: &mut [u8]) -> FoundTable
+// How many regions were put, and the page-table region.
+pub struct PutRegions {
+    pub table: FoundTable,
+    pub count: usize,
+}
+
+// Puts the words of the mask's regions into the lent bytes, in header order; counts them and finds its page-table region on the way.
+pub fn put_regions(s: &[u8], head: SheetHead, given: u32, words: &mut [u8]) -> PutRegions
     requires { ⌜ Readable limits (now s) × (head ≡ headOf (now s)) × (64 * regionCount (sheetInitializations (now s)) given ≤ length (now words)) ⌝ }
-    ensures { λ r. ⌜ r ≡ foundTable (pageTableAt (sheetInitializations (now (s .entry))) given) ⌝ }
+    ensures { λ r. ⌜ (r .table ≡ foundTable (pageTableAt (sheetInitializations (now (s .entry))) given)) × (r .count ≡ regionCount (sheetInitializations (now (s .entry))) given) ⌝ }
     ensures { λ _. ⌜ now (words .exit) ≡ rowsPut (regionCount (sheetInitializations (now (s .entry))) given) (λ n. regionWords (regionAt (sheetInitializations (now (s .entry))) given n)) (now (words .entry)) ⌝ }
 {
     let first = head.platforms as usize;
@@ -119,5 +125,8 @@ pub fn put_regions(s: &[u8], head: SheetHead, given: u32, words: &mut [u8]) -> F
         count = put_region(given, kind, b, count, words);
         c = next;
     }
-    found_table(s, t, end)
+    PutRegions {
+        table: found_table(s, t, end),
+        count,
+    }
 }

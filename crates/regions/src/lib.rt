@@ -1,7 +1,7 @@
 // The regions of a mask: how many the arrays of an accepted file have, each by its number among the initialization rows, and the page-table region.
 ghost use mathlib.Core.Path.{_≡_};
 ghost use mathlib.Core.Bool.{false, not, cond, _&&_};
-ghost use Prim.Native.Nat.{_≤_};
+ghost use Prim.Native.Nat.{_≤_, _<_};
 ghost use lib.ListN.{length, getD};
 ghost use Rattle.rows.specs.Below.{countBelow};
 ghost use Rattle.masks.specs.Masks.{matches};
@@ -146,7 +146,7 @@ fn one(test: bool) -> u32
 }
 
 // How many of the first n regions are regions of the mask: no page table, and with every bit of the mask.
-pub fn count_in<'a>(masks: &'a [u32], tables: &'a [bool], n: usize, given: u32) -> usize
+fn count_in<'a>(masks: &'a [u32], tables: &'a [bool], n: usize, given: u32) -> usize
     requires { ⌜ (n ≤ 64) × (n ≤ length (now masks)) × (n ≤ length (now tables)) ⌝ }
     ensures { λ r. ⌜ (r ≡ countBelow n (λ e. matches given (getD (now (masks .entry)) e 0) && not (getD (now (tables .entry)) e false))) × (r ≤ 64) ⌝ }
 {
@@ -157,6 +157,25 @@ pub fn count_in<'a>(masks: &'a [u32], tables: &'a [bool], n: usize, given: u32) 
         i += 1;
     }
     count as usize
+}
+
+// The same count, or n where there is room for all n regions: at least the count, and the count itself where it is more than the room.
+pub fn count_within<'a>(
+    masks: &'a [u32],
+    tables: &'a [bool],
+    n: usize,
+    given: u32,
+    room: usize,
+) -> usize
+    requires { ⌜ (n ≤ 64) × (n ≤ length (now masks)) × (n ≤ length (now tables)) ⌝ }
+    ensures { λ r. ⌜ countBelow n (λ e. matches given (getD (now (masks .entry)) e 0) && not (getD (now (tables .entry)) e false)) ≤ r ⌝ }
+    ensures { λ r. ⌜ (room < r → r ≡ countBelow n (λ e. matches given (getD (now (masks .entry)) e 0) && not (getD (now (tables .entry)) e false))) ⌝ }
+    ensures { λ r. ⌜ r ≤ 64 ⌝ }
+{
+    if n <= room {
+        return n;
+    }
+    count_in(masks, tables, n, given)
 }
 
 // ---- over the initialization rows of a readable sheet

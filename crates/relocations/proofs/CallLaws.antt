@@ -4,12 +4,12 @@ use mathlib.Core.Path.{_≡_, refl, ap, sym, _∙_}
 use mathlib.Core.Bool.{Bool, true, false, not, _&&_, _||_}
 use mathlib.Core.List.{List}
 use mathlib.Core.Option.{Option, none, some}
-use Prim.Native.Nat.{ℕ, _*_, _/_, _≤_}
+use Prim.Native.Nat.{ℕ, zero, suc, _*_, _/_, _≤_, _<_}
 use native.Mathlib.Omega.{arith}
 use lib.Dec.{ltb}
 use lib.ListN.{length}
 use borrow.Author.Tests.{ltb-false}
-use Rattle.rows.proofs.Bools.{or-false-parts}
+use Rattle.rows.proofs.Bools.{or-false-parts, ltb-same}
 use Rattle.igvm_defs.specs.declared.Refusal.{Refusal}
 use Rattle.igvm_defs.specs.Refusals.{noFault, noRefusal, isFault, isRefusal, inRow, orElse}
 use Rattle.igvm_defs.proofs.RefusalLaws.{orElse-first, orElse-later, else-refusal, row-refusal, no-fault-row, refuse-fault}
@@ -62,6 +62,16 @@ verdict-readable l s h = sheet-says l s .0 (or-false-parts (isRefusal (sheetRefu
 pub kept-few : (s : List ℕ) {held : RelocRegions} {numbers contexts : List ℕ} → isRefusal (verdictRefusal limits s) ≡ false → Kept s held numbers contexts → held .count ≤ 64
 unfolding sheetHeaders
 kept-few s h k = let b = readable-bounds s (verdict-readable limits s h) in omega (arith, k .regions .count)
+
+-- a count that may be too high where the room is enough for it decides 37 as the count itself
+pub room-same : (n r many : ℕ) → many ≤ r → (n / 64 < r → r ≡ many) → ltb (n / 8) (8 * r) ≡ ltb (n / 8) (8 * many)
+room-same n r many least more =
+    ltb-same (n / 8) (8 * r) (n / 8) (8 * many) (λ h. let e = more (omega arith) in omega arith) (λ h. omega arith)
+
+-- where no room is told, it is the count itself
+pub room-none : (r many : ℕ) → many ≤ r → (0 < r → r ≡ many) → r ≡ many
+room-none zero many least more = omega arith
+room-none (suc r) many least more = more (omega arith)
 
 module _ (l : Limits) (s : List ℕ) (given : ℕ) where
   -- a query that is not refused is of a readable sheet

@@ -2,7 +2,7 @@
 ghost use mathlib.Core.Path.{_≡_};
 ghost use mathlib.Core.Bool.{false};
 ghost use mathlib.Core.Option.{none};
-ghost use Prim.Native.Nat.{_≤_};
+ghost use Prim.Native.Nat.{_≤_, _<_};
 ghost use lib.ListN.{length};
 ghost use Rattle.igvm_defs.specs.Refusals.{noRefusal, isRefusal};
 ghost use Rattle.sheet.specs.Head.{limits};
@@ -16,15 +16,15 @@ use igvm_defs::Refusal;
 use regions::FoundTable;
 use sheet::SheetHead;
 
-// The verdict's refusal, or 35; and where neither applies, how many regions the mask has.
+// The verdict's refusal, or 35; and where neither applies, a count no less than the mask's regions, and just theirs where it is more than the room.
 struct Counted {
     refusal: Refusal,
     count: usize,
 }
 
-fn query(s: &[u8], given: u32) -> Counted
+fn query(s: &[u8], given: u32, room: usize) -> Counted
     ensures { λ r. ⌜ (r .refusal ≡ queryRefusal limits (now (s .entry)) given) × (r .count ≤ 64) ⌝ }
-    ensures { λ r. ⌜ (isRefusal (r .refusal) ≡ false → r .count ≡ regionCount (sheetInitializations (now (s .entry))) given) ⌝ }
+    ensures { λ r. ⌜ (isRefusal (r .refusal) ≡ false → (regionCount (sheetInitializations (now (s .entry))) given ≤ r .count) × (room < r .count → r .count ≡ regionCount (sheetInitializations (now (s .entry))) given)) ⌝ }
 {
     let start = sheet::start_fault(s);
     if start.is_fault() {
@@ -60,27 +60,22 @@ fn query(s: &[u8], given: u32) -> Counted
     }
     Counted {
         refusal: igvm_defs::refuse(given == 0, 35, 0, Fault::NONE).in_row(0),
-        count: regions::count_in(&masks, &tables, judged.count, given),
+        count: regions::count_within(&masks, &tables, judged.count, given, room),
     }
 }
 
 // ---- the region list
 
 // The verdict's refusal, 35, or 37 where n bytes are lent.
-fn relocations_query(s: &[u8], given: u32, n: usize) -> Counted
-    ensures { λ r. ⌜ r .refusal ≡ relocationsRefusal limits (now (s .entry)) given n ⌝ }
-    ensures { λ r. ⌜ (isRefusal (r .refusal) ≡ false → r .count ≡ regionCount (sheetInitializations (now (s .entry))) given) ⌝ }
+fn relocations_query(s: &[u8], given: u32, n: usize) -> Refusal
+    ensures { λ r. ⌜ r ≡ relocationsRefusal limits (now (s .entry)) given n ⌝ }
 {
-    let q = query(s, given);
+    let q = query(s, given, n / 64);
     let refusal = q.refusal;
     if refusal.is_refusal() {
-        return q;
+        return refusal;
     }
-    let count = q.count;
-    Counted {
-        refusal: igvm_defs::refuse(n / 8 < 8 * count, 37, 0, Fault::NONE).in_row(0),
-        count,
-    }
+    igvm_defs::refuse(n / 8 < 8 * q.count, 37, 0, Fault::NONE).in_row(0)
 }
 
 fn refused_relocations(refusal: Refusal) -> Relocations
@@ -112,13 +107,12 @@ pub fn relocations(s: &[u8], given: u32, words: &mut [u8]) -> Relocations
     ensures { λ r. ⌜ r ≡ relocationsOf limits (now (s .entry)) given (length (now (words .entry))) ⌝ }
     ensures { λ _. ⌜ now (words .exit) ≡ wordsAfter limits (now (s .entry)) given (now (words .entry)) ⌝ }
 {
-    let q = relocations_query(s, given, words.len());
-    let refusal = q.refusal;
+    let refusal = relocations_query(s, given, words.len());
     if refusal.is_refusal() {
         return refused_relocations(refusal);
     }
-    let table = region_words::put_regions(s, SheetHead::new(s), given, words);
-    found(q.count, table)
+    let put = region_words::put_regions(s, SheetHead::new(s), given, words);
+    found(put.count, put.table)
 }
 
 // ---- checks on one region
@@ -127,7 +121,7 @@ pub fn relocations(s: &[u8], given: u32, words: &mut [u8]) -> Relocations
 fn check_refusal(s: &[u8], given: u32, region: u64) -> Refusal
     ensures { λ r. ⌜ r ≡ checkRefusal limits (now (s .entry)) given region ⌝ }
 {
-    let q = query(s, given);
+    let q = query(s, given, 0);
     let refusal = q.refusal;
     if refusal.is_refusal() {
         return refusal;

@@ -98,7 +98,7 @@ returns c =
     let st = c .before .before .before .before .before .before .before .before .before in
     let w = c .before .before .before .loop .inv in
     let all = walk-all w (st .args .head) (st .pre .1) refl (st .pre .0) (c .before .if1 .left) in
-    (rw (c .found-table .ensures) (rw all at (w .table .table)), rw all at (w .words))
+    ((rw (c .found-table .ensures) (rw all at (w .table .table)), rw all at (w .counted)), rw all at (w .words))
 
 pub put-regions-spec : {M : Type 1} → statement M
 put-regions-spec =

@@ -4,7 +4,7 @@ use denote.Ref.{now}
 use Rattle.igvm_defs.specs.Refusals.{isRefusal, inRow}
 use Rattle.sheet.specs.Head.{limits}
 use Rattle.answers.specs.Relocations.{regionFault}
-use Rattle.relocations.proofs.CallLaws.{check-stops, region-decides}
+use Rattle.relocations.proofs.CallLaws.{check-stops, region-decides, room-none}
 use borrow.Author.Needs.{needs}
 use Rattle.relocations.proofs.check_refusal.Statement.{statement}
 use Rattle.relocations.proofs.check_refusal.Tie as tie
@@ -38,7 +38,8 @@ returns-2 c =
     let d = c .before .before in
     let q = d .before .before .before .query .ensures in
     let a = d .before .before .before .before .before .args in
-    let count = q .1 (not-refused d) in
+    let many = q .1 (not-refused d) in
+    let count = room-none _ _ (many .0) (many .1) in
     let own = c .in-row .ensures ∙ ap (inRow 0) (rw count at (c .before .refuse .ensures)) in
     own ∙ region-decides limits (now (a .s)) (a .given) (a .region) (rw (q .0 .0) at (not-refused d))
 

@@ -97,14 +97,14 @@ refuse-requires c κs = search needs
 in-row-requires-2 : tie.Need-in-row-requires-2
 in-row-requires-2 c κs = search needs
 
-slice-aggregate-count-in : tie.Need-slice-aggregate-count-in
-slice-aggregate-count-in c = search needs
+slice-aggregate-count-within : tie.Need-slice-aggregate-count-within
+slice-aggregate-count-within c = search needs
 
-slice-aggregate-count-in-2 : tie.Need-slice-aggregate-count-in-2
-slice-aggregate-count-in-2 c = search needs
+slice-aggregate-count-within-2 : tie.Need-slice-aggregate-count-within-2
+slice-aggregate-count-within-2 c = search needs
 
-count-in-requires : tie.Need-count-in-requires
-count-in-requires c κs =
+count-within-requires : tie.Need-count-within-requires
+count-within-requires c κs =
     let d = c .before .before .before .before in
     let j = d .before .before .before .before .before .before .before .before .before .before .before .judge in
     let few = kept-few (now (d .before .before .before .before .before .before .before .before .before .before .before .before .before .before .before .before .before .before .before .before .before .before .before .before .before .args .s)) (accepted d) (j .ensures .1 (accepted d)) in
@@ -117,9 +117,10 @@ unfolding queryRefusal maskFault
 returns-3 c =
     let d = c .before .before .before .before .before in
     let j = d .before .before .before .before .before .before .before .before .before .before .before .judge in
-    let k = c .count-in .ensures in
+    let k = c .count-within .ensures in
     let own = c .before .before .before .in-row2 .ensures ∙ ap (inRow 0) (c .before .before .before .before .refuse .ensures) in
-    ((own ∙ sym (orElse-later _ _ (accepted d)), k .1), λ _. k .0 ∙ count-kept (d .before .before .before .before .before .before .before .before .before .before .before .before .before .before .before .before .before .before .before .before .before .before .before .before .before .args .given) (j .ensures .1 (accepted d) .rows))
+    let kept = count-kept (d .before .before .before .before .before .before .before .before .before .before .before .before .before .before .before .before .before .before .before .before .before .before .before .before .before .args .given) (j .ensures .1 (accepted d) .rows) in
+    ((own ∙ sym (orElse-later _ _ (accepted d)), k .1 .1), λ _. (rw (← kept) (k .0), λ h. k .1 .0 h ∙ kept))
 
 pub query-spec : {M : Type 1} → statement M
 query-spec =
@@ -142,7 +143,7 @@ query-spec =
     returns-2
     refuse-requires
     in-row-requires-2
-    slice-aggregate-count-in
-    slice-aggregate-count-in-2
-    count-in-requires
+    slice-aggregate-count-within
+    slice-aggregate-count-within-2
+    count-within-requires
     returns-3)

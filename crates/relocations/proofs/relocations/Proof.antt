@@ -15,11 +15,11 @@ use Rattle.relocations.proofs.relocations.Statement.{statement}
 use Rattle.relocations.proofs.relocations.Tie as tie
 
 -- nothing is refused
-not-refused : (c : tie.Else1) → let a = c .before .before .before .before .before .before .args in
+not-refused : (c : tie.Else1) → let a = c .before .before .before .before .before .args in
     isRefusal (relocationsRefusal limits (now (a .s)) (a .given) (length (now (a .words)))) ≡ false
-not-refused c = rw (c .before .before .before .relocations-query .ensures .0) at (sym (c .before .is-refusal .ensures) ∙ c .if1 .left)
+not-refused c = rw (c .before .before .relocations-query .ensures) at (sym (c .before .is-refusal .ensures) ∙ c .if1 .left)
 
-passed : (c : tie.Else1) → Readable limits (now (c .before .before .before .before .before .before .args .s))
+passed : (c : tie.Else1) → Readable limits (now (c .before .before .before .before .before .args .s))
 passed c = list-readable limits _ _ _ (not-refused c)
 
 relocations-query-requires : tie.Need-relocations-query-requires
@@ -33,8 +33,8 @@ refused-relocations-requires c κs = search needs
 
 returns : tie.Need-returns
 returns c =
-    let e = c .before .before .before .before .relocations-query .ensures .0 in
-    let a = c .before .before .before .before .before .before .before .args in
+    let e = c .before .before .before .relocations-query .ensures in
+    let a = c .before .before .before .before .before .before .args in
     let t = rw e at (sym (c .before .before .is-refusal .ensures) ∙ c .before .if1 .taken) in (
       c .refused-relocations .ensures ∙ ap (foundOf 0 none) e ∙ refused-answer limits (now (a .s)) (a .given) (length (now (a .words))) t,
       refused-words limits (now (a .s)) (a .given) (now (a .words)) t,
@@ -47,7 +47,7 @@ new-requires c κs =
 put-regions-requires : tie.Need-put-regions-requires
 put-regions-requires c κs =
     let d = c .before .before in
-    let a = d .before .before .before .before .before .before .args in
+    let a = d .before .before .before .before .before .args in
     (passed d, c .before .new .ensures, room limits (now (a .s)) (a .given) (length (now (a .words))) (not-refused d))
 
 found-requires : tie.Need-found-requires
@@ -59,11 +59,10 @@ same-length c = search needs
 returns-2 : tie.Need-returns-2
 returns-2 c =
     let d = c .before .before .before .before .before .before in
-    let a = d .before .before .before .before .before .before .args in
-    let count = d .before .before .before .relocations-query .ensures .1 (sym (d .before .is-refusal .ensures) ∙ d .if1 .left) in
+    let a = d .before .before .before .before .before .args in
     let put = c .before .before .before .put-regions .ensures in (
       c .found .ensures
-          ∙ rw count (found-table _ (pageTableAt (sheetInitializations (now (a .s))) (a .given)) _ (put .0))
+          ∙ rw (put .0 .1) (found-table _ (pageTableAt (sheetInitializations (now (a .s))) (a .given)) _ (put .0 .0))
           ∙ found-answer limits (now (a .s)) (a .given) (length (now (a .words))) (not-refused d),
       put .1 ∙ found-words limits (now (a .s)) (a .given) (now (a .words)) (not-refused d),
     )

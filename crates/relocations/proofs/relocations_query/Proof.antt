@@ -4,7 +4,7 @@ use denote.Ref.{now}
 use Rattle.igvm_defs.specs.Refusals.{isRefusal, inRow}
 use Rattle.sheet.specs.Head.{limits}
 use Rattle.answers.specs.Relocations.{wordsFault}
-use Rattle.relocations.proofs.CallLaws.{query-stops, words-decide}
+use Rattle.relocations.proofs.CallLaws.{query-stops, words-decide, room-same}
 use borrow.Author.Needs.{needs}
 use Rattle.relocations.proofs.relocations_query.Statement.{statement}
 use Rattle.relocations.proofs.relocations_query.Tie as tie
@@ -24,7 +24,7 @@ returns c =
     let q = c .before .before .before .query .ensures in
     let a = c .before .before .before .before .before .args in
     let t = sym (c .before .is-refusal .ensures) ∙ c .if1 .taken in
-    (q .0 .0 ∙ query-stops limits (now (a .s)) (a .given) (a .n) (rw (q .0 .0) at t), q .1)
+    q .0 .0 ∙ query-stops limits (now (a .s)) (a .given) (a .n) (rw (q .0 .0) at t)
 
 mul-refuse : tie.Need-mul-refuse
 mul-refuse c = search needs
@@ -38,12 +38,12 @@ in-row-requires c κs = search needs
 returns-2 : tie.Need-returns-2
 unfolding wordsFault
 returns-2 c =
-    let d = c .before .before in
+    let d = c .before .before .before in
     let q = d .before .before .before .query .ensures in
     let a = d .before .before .before .before .before .args in
-    let count = q .1 (not-refused d) in
-    let own = c .in-row .ensures ∙ ap (inRow 0) (rw count at (c .before .refuse .ensures)) in
-    (own ∙ words-decide limits (now (a .s)) (a .given) (a .n) (rw (q .0 .0) at (not-refused d)), λ _. count)
+    let many = q .1 (not-refused d) in
+    let own = c .in-row .ensures ∙ ap (inRow 0) (rw (room-same (a .n) _ _ (many .0) (many .1)) at (c .before .refuse .ensures)) in
+    own ∙ words-decide limits (now (a .s)) (a .given) (a .n) (rw (q .0 .0) at (not-refused d))
 
 pub relocations-query-spec : {M : Type 1} → statement M
 relocations-query-spec =
