@@ -2,17 +2,15 @@
 -- Assumes nothing.
 use Prim.Native.Nat.{ℕ, _+_, _-_, _≤_, _<_}
 use native.Mathlib.Omega.{arith}
-use mathlib.Core.Path.{_≡_, refl, sym, ap, _∙_}
-use mathlib.Core.Bool.{Bool, true, false, not, _&&_}
+use mathlib.Core.Path.{_≡_, ap, _∙_}
+use mathlib.Core.Bool.{Bool, false}
 use mathlib.Core.List.{List, [], _∷_}
-use lib.Dec.{eqb, ltb}
-use lib.ListN.{length, getD}
+use lib.ListN.{length}
 use borrow.Author.Tests.{le-ltb}
 use Rattle.rows.specs.Below.{anyBelow}
-use Rattle.rows.specs.Rows.{Rows, before}
+use Rattle.rows.specs.Rows.{Rows}
 use Rattle.rows.proofs.BelowLaws.{none-any}
-use Rattle.igvm_defs.specs.declared.Refusal.{Refusal}
-use Rattle.igvm_defs.specs.Refusals.{fault, noFault, refuse, isFault, isRefusal, inRow}
+use Rattle.igvm_defs.specs.Refusals.{fault, noFault, refuse, isFault, isRefusal}
 use Rattle.igvm_defs.proofs.RefusalLaws.{no-fault, row-refusal}
 use Rattle.sheet.specs.declared.Cursor.{Cursor}
 use Rattle.sheet.specs.Head.{limits, headOf, rowCount, bodiesAt, startFault}
@@ -28,16 +26,15 @@ use Rattle.initializations.specs.Record.{anyRegion, regionsIn, HoldsRegions, Ho
 use Rattle.directives.specs.Record.{HoldsContexts, lacksContext}
 use Rattle.initialization_header.specs.declared.IgvmInitializationHeader.{IgvmInitializationHeader}
 use Rattle.rules.specs.Regions.{tableHolds}
-use Rattle.rules.specs.Accepted.{NotRefused}
-use Rattle.rules.specs.Verdict.{Headers, platformFaults, initializationFaults, directiveFaults, platformsRefusal, initializationsRefusal, directivesRefusal}
+use Rattle.rules.specs.Verdict.{platformFaults, initializationFaults, platformsRefusal, directivesRefusal}
 use Rattle.rules.proofs.Acceptance.{platforms-say, initializations-say, headers-say}
 use Rattle.directives.proofs.DirectiveRecordLaws.{holds-no-contexts}
 use Rattle.directive_pass.proofs.DirectivePass.{directives-end}
 use Rattle.platform_rows.specs.Accepted.{PlatformsAccepted, HoldsCca}
 use Rattle.initialization_rows.specs.Accepted.{InitializationsAccepted}
-use Rattle.directive_rows.specs.Accepted.{firstDirective, DirectivesAccepted, anyLacks}
+use Rattle.directive_rows.specs.Accepted.{firstDirective, DirectivesAccepted}
+use Rattle.contexts.specs.Contexts.{anyLacks}
 use Rattle.clashes.specs.Clashes.{HoldsTables}
-use Rattle.keep.specs.Kept.{Kept}
 use Rattle.acceptance.specs.Accepted.{RowsAccepted, ListsAccepted}
 
 -- the table lies in the sheet

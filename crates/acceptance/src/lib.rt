@@ -11,8 +11,6 @@ ghost use Rattle.sheet.specs.Head.{limits, headOf, rowCount, startFault};
 ghost use Rattle.sheet.specs.Walk.{ReadTo};
 ghost use Rattle.headers.specs.Headers.{sheetHeaders};
 ghost use Rattle.initializations.specs.Record.{regionsIn, HoldsRows};
-ghost use Rattle.initialization_rows.specs.Accepted.{InitializationsAccepted};
-ghost use Rattle.platform_rows.specs.Accepted.{PlatformsAccepted};
 ghost use Rattle.directive_rows.specs.Accepted.{firstDirective, DirectivesAccepted};
 ghost use Rattle.acceptance.specs.Accepted.{RowsAccepted, ListsAccepted};
 use sheet::Cursor;
@@ -54,7 +52,7 @@ fn accept_directives<'a>(
         };
     }
     let whole = s.len() <= at.at;
-    let lacks = directive_rows::any_lacks(masks, vps, vtls, n, contexts);
+    let lacks = contexts::any_lacks(masks, vps, vtls, n, contexts);
     Reached {
         at,
         count: n,

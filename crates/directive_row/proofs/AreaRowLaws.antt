@@ -27,7 +27,8 @@ use Rattle.rules.specs.Accepted.{ownDirectiveFault}
 use Rattle.rules.specs.Directives.{wrongArch, allocates, inserts, isAllocated, badArea, insideTable, isContext}
 use Rattle.area_table.specs.AreaTable.{HoldsAreas, stateIn}
 use Rattle.area_table.proofs.AreaTableLaws.{holds-same}
-use Rattle.directive_row.specs.Sound.{Sound, AreaRow, NamedRow, areaState, stateOf, stateAfter}
+use Rattle.directive_body.specs.Sound.{Sound}
+use Rattle.directive_row.specs.Row.{AreaRow, NamedRow, areaState, stateOf, stateAfter}
 
 or-true : (b : Bool) → (b || true) ≡ true
 or-true true = refl

@@ -1,2 +1,2 @@
-pub mod SoundLaws
+pub mod PlainLaws
 pub mod AreaRowLaws

@@ -14,67 +14,9 @@ ghost use Rattle.rules.specs.Directives.{insideTable};
 ghost use Rattle.directive_header.specs.declared.IgvmDirectiveHeader.{IgvmDirectiveHeader};
 ghost use Rattle.area_table.specs.AreaTable.{HoldsAreas};
 ghost use Rattle.clashes.specs.Clashes.{HoldsTables};
-ghost use Rattle.directive_row.specs.Sound.{Sound, VbsContext, PlainRow, AreaRow, NamedRow, stateOf};
+ghost use Rattle.directive_row.specs.Row.{VbsContext, PlainRow, AreaRow, NamedRow, stateOf};
 
 // ---- a row's body
-
-// 32: an address on a page, a type up to 3, at most 4,096 bytes of data.
-pub fn page_data(b: &[u8]) -> bool
-    ensures { λ r. ⌜ ((arch : Arch) → r ≡ true → Sound arch 32 (now (b .entry))) ⌝ }
-{
-    let n = b.len();
-    if n < 18 {
-        return false;
-    }
-    if 4114 < n {
-        return false;
-    }
-    le::u64_at(b, 0) % 4096 + ((le::u16_at(b, 16) / 4) as u64) == 0
-}
-
-// 33: its bytes on a page, and no more initial data than that.
-fn parameter_area(b: &[u8]) -> bool
-    ensures { λ r. ⌜ ((arch : Arch) → r ≡ true → Sound arch 33 (now (b .entry))) × (r ≡ true → 12 ≤ length (now (b .entry))) ⌝ }
-{
-    let n = b.len();
-    if n < 12 {
-        return false;
-    }
-    let bytes = le::u64_at(b, 0);
-    addresses::on_page(bytes) & ((n - 12) as u64 <= bytes)
-}
-
-// 44: protectable 0 or 1, address and bytes on a page.
-fn required_memory(b: &[u8]) -> bool
-    ensures { λ r. ⌜ ((arch : Arch) → r ≡ true → Sound arch 44 (now (b .entry))) ⌝ }
-{
-    if b.len() != 17 {
-        return false;
-    }
-    (b[16] <= 1)
-        & addresses::on_page(le::u64_at(b, 0))
-        & addresses::on_page(le::u32_at(b, 12) as u64)
-}
-
-// 45: an address on a page.
-fn snp_vp_context(b: &[u8]) -> bool
-    ensures { λ r. ⌜ ((arch : Arch) → r ≡ true → Sound arch 45 (now (b .entry))) ⌝ }
-{
-    if b.len() < 14 {
-        return false;
-    }
-    addresses::on_page(le::u64_at(b, 0))
-}
-
-// 51: an address on a page.
-fn error_range(b: &[u8]) -> bool
-    ensures { λ r. ⌜ ((arch : Arch) → r ≡ true → Sound arch 51 (now (b .entry))) ⌝ }
-{
-    if b.len() != 16 {
-        return false;
-    }
-    addresses::on_page(le::u64_at(b, 0))
-}
 
 fn wide(x: u8) -> usize
     ensures { λ r. ⌜ r ≡ x ⌝ }
@@ -109,14 +51,14 @@ pub fn plain_row(kind: u32, b: &[u8], x64: bool, contexts: &mut [u32; 3]) -> boo
     ensures { λ r. ⌜ (r ≡ false → now (contexts .exit) ≡ now (contexts .entry)) × (length (now (contexts .exit)) ≡ 3) ⌝ }
 {
     match kind {
-        32 => page_data(b),
-        44 => required_memory(b),
-        45 => snp_vp_context(b),
+        32 => directive_body::page_data(b),
+        44 => directive_body::required_memory(b),
+        45 => directive_body::snp_vp_context(b),
         46 => x64 & (6 <= b.len()),
         47 => vbs_context(b, x64, contexts),
         48 => vbs_context(b, !x64, contexts),
         49 => !x64 & (6 <= b.len()),
-        51 => error_range(b),
+        51 => directive_body::error_range(b),
         52 => 4 <= b.len(),
         53 => 4 <= b.len(),
         _ => false, // 33 to 43 and 50 name an area
@@ -136,7 +78,7 @@ fn parameter_area_row(
     ensures { λ r. ⌜ ((arch : Arch) (earlier : Rows IgvmDirectiveHeader) → HoldsAreas (now (few .entry)) (now (links .entry)) (now (areas .entry)) (now (states .entry)) (stateOf earlier) → r ≡ true → AreaRow arch earlier 33 (now (b .entry)) (now (few .exit)) (now (links .exit)) (now (areas .exit)) (now (states .exit))) ⌝ }
     ensures { λ r. ⌜ ((known : ℕ → ℕ) → r ≡ false → HoldsAreas (now (few .entry)) (now (links .entry)) (now (areas .entry)) (now (states .entry)) known → HoldsAreas (now (few .exit)) (now (links .exit)) (now (areas .exit)) (now (states .exit)) known) ⌝ }
 {
-    if !parameter_area(b) {
+    if !directive_body::parameter_area(b) {
         return false;
     }
     let area = le::u32_at(b, 8);

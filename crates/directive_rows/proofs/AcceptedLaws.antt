@@ -32,8 +32,9 @@ use Rattle.rules.specs.Verdict.{directiveFaults}
 use Rattle.rules.proofs.Acceptance.{directive-says, inside-table}
 use Rattle.directives.specs.Record.{namesArea}
 use Rattle.directives.proofs.DirectiveRecordLaws.{holds-next, names-no-area}
-use Rattle.directive_row.specs.Sound.{Sound, ContextsNext, PlainRow, stateOf, stateAfter}
-use Rattle.directive_row.proofs.SoundLaws.{page-plain}
+use Rattle.directive_body.specs.Sound.{Sound}
+use Rattle.directive_row.specs.Row.{ContextsNext, PlainRow, stateOf, stateAfter}
+use Rattle.directive_row.proofs.PlainLaws.{page-plain}
 use Rattle.directive_rows.specs.Accepted.{firstDirective, DirectivesAccepted, stateBefore, Onward, PlainPassed}
 
 -- ---- a row that names no area

@@ -22,7 +22,7 @@ use Rattle.sheet.specs.Walk.{ReadTo}
 use Rattle.directives.proofs.DirectiveRecordLaws.{holds-no-contexts}
 use Rattle.headers.specs.Headers.{sheetHeaders}
 use Rattle.directive_rows.specs.Accepted.{firstDirective, DirectivesAccepted, NamedAccepted, PlainAccepted, PlainPassed, AreasPassed, Onward, stateBefore}
-use Rattle.directive_row.specs.Sound.{AreaRow, NamedRow, ContextsNext, stateOf}
+use Rattle.directive_row.specs.Row.{AreaRow, NamedRow, ContextsNext, stateOf}
 use Rattle.directive_rows.proofs.AcceptedLaws.{part-body, read-row, accepted-more, state-more}
 use Rattle.directive_row.proofs.AreaRowLaws.{parameter-table, parameter-context, parameter-state}
 

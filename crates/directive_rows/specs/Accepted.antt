@@ -1,10 +1,9 @@
 -- How far the directive rows of a byte string are in order, and what the rows passed tell.
 use Prim.Native.Nat.{ℕ, _+_, _-_, _≤_}
-use mathlib.Core.Bool.{Bool, false, not, _&&_}
+use mathlib.Core.Bool.{false}
 use mathlib.Core.List.{List}
 use mathlib.Core.Path.{_≡_}
-use lib.Dec.{eqb}
-use lib.ListN.{length, getD}
+use lib.ListN.{length}
 use Rattle.rows.specs.Below.{anyBelow}
 use Rattle.rows.specs.Rows.{before}
 use Rattle.igvm_defs.specs.Refusals.{isFault}
@@ -14,9 +13,8 @@ use Rattle.sheet.specs.Walk.{ReadTo}
 use Rattle.headers.specs.Headers.{sheetHeaders}
 use Rattle.rules.specs.Verdict.{directiveFaults}
 use Rattle.directives.specs.Record.{HoldsContexts}
-use Rattle.masks.specs.Masks.{shares}
 use Rattle.area_table.specs.AreaTable.{HoldsAreas}
-use Rattle.directive_row.specs.Sound.{stateOf}
+use Rattle.directive_row.specs.Row.{stateOf}
 
 -- how many rows stand before the directive rows
 abbrev pub firstDirective : List ℕ → ℕ
@@ -67,7 +65,3 @@ pub record NamedAccepted (s : List ℕ) (c : Cursor) (contexts few links areas s
   pub rows : DirectivesAccepted s c contexts
   pub known : HoldsAreas few links areas states (stateBefore s (c .row))
   pub masks : length contexts ≡ 3
-
--- some of the first n regions has a VP index other than 0, or no context
-abbrev pub anyLacks : List ℕ → List ℕ → List ℕ → ℕ → List ℕ → Bool
-anyLacks masks vps vtls n contexts = anyBelow n (λ i. not (eqb (getD vps i 0) 0 && shares (getD contexts (getD vtls i 0) 0) (getD masks i 0)))

@@ -1,19 +1,16 @@
 // The directive rows of a sheet, from its bytes, as far as they are in order: one pass. A row that is not in order, or of which this pass can't tell, is
 // where it ends; what is wrong with such a row is for the pass over directive headers to say.
 ghost use mathlib.Core.Path.{_≡_};
-ghost use mathlib.Core.Bool.{false, not, _&&_};
 ghost use mathlib.Core.List.{[], _∷_};
 ghost use Prim.Native.Nat.{_≤_};
-ghost use lib.Dec.{eqb};
-ghost use lib.ListN.{length, getD};
+ghost use lib.ListN.{length};
 ghost use Rattle.igvm_defs.specs.Revision.{isX64};
-ghost use Rattle.masks.specs.Masks.{shares};
 ghost use Rattle.sheet.specs.Head.{headOf, rowCount, bodiesAt};
 ghost use Rattle.sheet.specs.Walk.{ReadTo};
 ghost use Rattle.headers.specs.Headers.{sheetHeaders};
 ghost use Rattle.area_table.specs.AreaTable.{HoldsAreas};
 ghost use Rattle.clashes.specs.Clashes.{HoldsTables};
-ghost use Rattle.directive_rows.specs.Accepted.{firstDirective, DirectivesAccepted, Onward, PlainPassed, AreasPassed, PlainAccepted, NamedAccepted, stateBefore, anyLacks};
+ghost use Rattle.directive_rows.specs.Accepted.{firstDirective, DirectivesAccepted, Onward, PlainPassed, AreasPassed, PlainAccepted, NamedAccepted, stateBefore};
 use sheet::Cursor;
 
 // ---- the rows
@@ -34,7 +31,7 @@ fn past_pages(s: &[u8], from: Cursor, end: usize) -> Cursor
         if sheet::kind_at(s, k) != 32 {
             return c;
         }
-        if !directive_row::page_data(sheet::part(s, at, len)) {
+        if !directive_body::page_data(sheet::part(s, at, len)) {
             return c;
         }
         c = Cursor {
@@ -303,44 +300,4 @@ pub fn accept<'a>(
         return past_areas(s, c, end, x64, masks, gpas, sizes, tables, n, contexts);
     }
     c
-}
-
-// ---- 34
-
-fn mask_of_vtl(contexts: &[u32; 3], vtl: u8) -> u32
-    requires { ⌜ length (now contexts) ≡ 3 ⌝ }
-    ensures { λ r. ⌜ r ≡ getD (now (contexts .entry)) vtl 0 ⌝ }
-{
-    if vtl < 3 {
-        let v = vtl as usize;
-        return contexts[v];
-    }
-    0
-}
-
-fn lacks(contexts: &[u32; 3], mask: u32, vp: u16, vtl: u8) -> bool
-    requires { ⌜ length (now contexts) ≡ 3 ⌝ }
-    ensures { λ r. ⌜ r ≡ not (eqb vp 0 && shares (getD (now (contexts .entry)) vtl 0) mask) ⌝ }
-{
-    !((vp == 0) & masks::shares(mask_of_vtl(contexts, vtl), mask))
-}
-
-// Some of the first n regions has a VP index other than 0, or no context.
-pub fn any_lacks<'a>(
-    masks: &'a [u32],
-    vps: &'a [u16],
-    vtls: &'a [u8],
-    n: usize,
-    contexts: &'a [u32; 3],
-) -> bool
-    requires { ⌜ (n ≤ length (now masks)) × (n ≤ length (now vps)) × (n ≤ length (now vtls)) × (length (now contexts) ≡ 3) ⌝ }
-    ensures { λ r. ⌜ r ≡ anyLacks (now (masks .entry)) (now (vps .entry)) (now (vtls .entry)) n (now (contexts .entry)) ⌝ }
-{
-    let mut i = 0;
-    let mut found = false;
-    while i < n {
-        found = found | lacks(contexts, masks[i], vps[i], vtls[i]);
-        i += 1;
-    }
-    found
 }

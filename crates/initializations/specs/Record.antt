@@ -1,7 +1,7 @@
 -- The record of the regions read so far, and the rows that it stands for, in whatever order it keeps them.
 use Prim.Native.Nat.{ℕ, _+_, _<_, _≤_}
 use mathlib.Core.Path.{_≡_}
-use mathlib.Core.Bool.{Bool, true, false, cond, _&&_}
+use mathlib.Core.Bool.{Bool, true, false, cond}
 use mathlib.Core.Option.{none, some}
 use mathlib.Core.List.{List}
 use lib.Dec.{eqb}
@@ -12,7 +12,7 @@ use Rattle.rows.specs.Rows.{Rows, any, before, countOf}
 use Rattle.igvm_defs.specs.declared.Arch.{Arch}
 use Rattle.igvm_defs.specs.declared.Fault.{Fault}
 use Rattle.igvm_defs.specs.Refusals.{fault, noFault, refuse, orFault, isFault}
-use Rattle.addresses.specs.Addresses.{endsBeyond, contains, meets}
+use Rattle.addresses.specs.Addresses.{endsBeyond}
 use Rattle.masks.specs.Masks.{shares}
 use Rattle.platform_header.specs.declared.IgvmPlatformHeader.{IgvmPlatformHeader}
 use Rattle.initialization_header.specs.declared.IgvmInitializationHeader.{IgvmInitializationHeader}

@@ -1,6 +1,6 @@
 use Rattle.directive_row.proofs.AreaRowLaws.{table-says, insert-area}
 use Rattle.addresses.specs.Addresses.{onPage}
-use Rattle.directive_row.specs.Sound.{stateOf}
+use Rattle.directive_row.specs.Row.{stateOf}
 use borrow.Author.Tests.{not-false}
 use native.Mathlib.Omega.{arith}
 use mathlib.Core.Bool.{false≢true}

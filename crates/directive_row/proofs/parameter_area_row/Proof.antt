@@ -1,5 +1,5 @@
 use Rattle.directive_row.proofs.AreaRowLaws.{table-says, area-row}
-use Rattle.directive_row.specs.Sound.{stateOf}
+use Rattle.directive_row.specs.Row.{stateOf}
 use borrow.Author.Tests.{not-false}
 use native.Mathlib.Omega.{arith}
 use mathlib.Core.Bool.{false≢true}
@@ -11,7 +11,7 @@ use Rattle.directive_row.proofs.parameter_area_row.Reads as reads
 use Rattle.directive_row.proofs.parameter_area_row.Lts as lts
 use Rattle.area_table.proofs.put.Reads as put-reads
 use Rattle.area_table.proofs.state_of.Reads as state-of-reads
-use Rattle.directive_row.proofs.parameter_area.Reads as parameter-area-reads
+use Rattle.directive_body.proofs.parameter_area.Reads as parameter-area-reads
 use Rattle.le.proofs.u32_at.Reads as u32-at-reads
 
 -- src/lib.rt:144:9

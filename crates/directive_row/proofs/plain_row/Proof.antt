@@ -1,4 +1,4 @@
-use Rattle.directive_row.proofs.SoundLaws.{page-plain, memory-plain, snp-plain, range-plain, native-plain, cca-plain, block-plain, measurement-plain, x64-plain, aarch64-plain, is-aarch64}
+use Rattle.directive_row.proofs.PlainLaws.{page-plain, memory-plain, snp-plain, range-plain, native-plain, cca-plain, block-plain, measurement-plain, x64-plain, aarch64-plain, is-aarch64}
 use Rattle.rows.proofs.Bools.{and-parts}
 use mathlib.Core.Bool.{false≢true}
 use mathlib.Core.Path.{refl, sym, _∙_}
@@ -7,10 +7,10 @@ use Rattle.directive_row.proofs.plain_row.Statement.{statement}
 use Rattle.directive_row.proofs.plain_row.Tie as tie
 use Rattle.directive_row.proofs.plain_row.Reads as reads
 use Rattle.directive_row.proofs.plain_row.Lts as lts
-use Rattle.directive_row.proofs.error_range.Reads as error-range-reads
-use Rattle.directive_row.proofs.page_data.Reads as page-data-reads
-use Rattle.directive_row.proofs.required_memory.Reads as required-memory-reads
-use Rattle.directive_row.proofs.snp_vp_context.Reads as snp-vp-context-reads
+use Rattle.directive_body.proofs.error_range.Reads as error-range-reads
+use Rattle.directive_body.proofs.page_data.Reads as page-data-reads
+use Rattle.directive_body.proofs.required_memory.Reads as required-memory-reads
+use Rattle.directive_body.proofs.snp_vp_context.Reads as snp-vp-context-reads
 use Rattle.directive_row.proofs.vbs_context.Reads as vbs-context-reads
 
 -- src/lib.rt:109:15

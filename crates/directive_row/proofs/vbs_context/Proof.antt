@@ -1,4 +1,4 @@
-use Rattle.directive_row.proofs.SoundLaws.{vbs-more}
+use Rattle.directive_row.proofs.PlainLaws.{vbs-more}
 use lib.ListN.{length-set}
 use borrow.Author.Tests.{not-false}
 use native.Mathlib.Omega.{arith}

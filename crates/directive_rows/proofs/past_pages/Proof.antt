@@ -11,7 +11,7 @@ use Rattle.directive_rows.proofs.past_pages.Statement.{statement}
 use Rattle.directive_rows.proofs.past_pages.Tie as tie
 use Rattle.directive_rows.proofs.past_pages.Reads as reads
 use Rattle.directive_rows.proofs.past_pages.Lts as lts
-use Rattle.directive_row.proofs.page_data.Reads as page-data-reads
+use Rattle.directive_body.proofs.page_data.Reads as page-data-reads
 use Rattle.sheet.proofs.kind_at.Reads as kind-at-reads
 use Rattle.sheet.proofs.length_at.Reads as length-at-reads
 use Rattle.sheet.proofs.part.Reads as part-reads

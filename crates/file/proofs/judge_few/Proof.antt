@@ -1,18 +1,9 @@
 use Prim.Native.Nat.{_≤_}
-use Rattle.answers.specs.Verdict.{verdictRefusal}
-use Rattle.rules.specs.Verdict.{platformsRefusal, initializationsRefusal, directivesRefusal, headersRefusal}
-use Rattle.headers.specs.Headers.{sheetHeaders}
-use Rattle.sheet.specs.Read.{Readable, sheetRefusal, rowsRefusal}
-use Rattle.sheet.specs.Head.{limits, headOf, startFault, pageSizeFault}
+use Rattle.sheet.specs.Head.{headOf}
 use Rattle.sheet.specs.declared.SheetHead.{SheetHead}
-use Rattle.igvm_defs.proofs.RefusalLaws.{row-refusal}
-use Rattle.igvm_defs.specs.Refusals.{isFault, isRefusal, inRow}
-use Rattle.rows.proofs.Bools.{and-parts, not-both}
 use denote.Ref.{now}
-use borrow.Author.Tests.{not-true}
 use native.Mathlib.Omega.{arith}
-use mathlib.Core.Bool.{true, false, true≢false, false≢true}
-use mathlib.Core.Path.{_≡_, refl, sym, ap, _∙_}
+use mathlib.Core.Path.{refl, ap}
 use borrow.Author.Needs.{needs}
 use Rattle.file.proofs.judge_few.Statement.{statement}
 use Rattle.file.proofs.judge_few.Tie as tie

@@ -3,20 +3,15 @@ use Rattle.validation.proofs.VerdictLaws.{sheet-none, verdict-none}
 use Rattle.headers.proofs.HeaderLaws.{sheet-counts}
 use Rattle.sheet.specs.Head.{rowCount, revisionOf}
 use Rattle.igvm_defs.specs.Revision.{isX64, archOf}
-use Rattle.answers.specs.Verdict.{verdictRefusal}
-use Rattle.rules.specs.Verdict.{platformsRefusal, initializationsRefusal, directivesRefusal, headersRefusal}
-use Rattle.headers.specs.Headers.{sheetHeaders}
-use Rattle.sheet.specs.Read.{Readable, sheetRefusal, rowsRefusal}
-use Rattle.sheet.specs.Head.{limits, headOf, startFault, pageSizeFault}
+use Rattle.sheet.specs.Head.{limits, pageSizeFault}
 use Rattle.sheet.specs.declared.SheetHead.{SheetHead}
 use Rattle.igvm_defs.proofs.RefusalLaws.{row-refusal}
-use Rattle.igvm_defs.specs.Refusals.{isFault, isRefusal, inRow}
-use Rattle.rows.proofs.Bools.{and-parts, not-both}
+use Rattle.igvm_defs.specs.Refusals.{isFault}
+use Rattle.rows.proofs.Bools.{and-parts}
 use denote.Ref.{now}
 use borrow.Author.Tests.{not-true}
 use native.Mathlib.Omega.{arith}
-use mathlib.Core.Bool.{true, false, true≢false, false≢true}
-use mathlib.Core.Path.{_≡_, refl, sym, ap, _∙_}
+use mathlib.Core.Path.{_≡_, sym, ap, _∙_}
 use borrow.Author.Needs.{needs}
 use Rattle.judge.proofs.judge.Statement.{statement}
 use Rattle.judge.proofs.judge.Tie as tie

@@ -1,20 +1,12 @@
 use Rattle.validation.proofs.VerdictLaws.{refused, verdict-start}
 use Rattle.sheet.proofs.Readable.{start-says}
-use borrow.Author.Tests.{leb-true}
-use Rattle.answers.specs.Verdict.{verdictRefusal}
-use Rattle.rules.specs.Verdict.{platformsRefusal, initializationsRefusal, directivesRefusal, headersRefusal}
-use Rattle.headers.specs.Headers.{sheetHeaders}
-use Rattle.sheet.specs.Read.{Readable, sheetRefusal, rowsRefusal}
-use Rattle.sheet.specs.Head.{limits, headOf, startFault, pageSizeFault}
+use Rattle.sheet.specs.Head.{limits, startFault}
 use Rattle.sheet.specs.declared.SheetHead.{SheetHead}
 use Rattle.igvm_defs.proofs.RefusalLaws.{row-refusal}
 use Rattle.igvm_defs.specs.Refusals.{isFault, isRefusal, inRow}
-use Rattle.rows.proofs.Bools.{and-parts, not-both}
 use denote.Ref.{now}
-use borrow.Author.Tests.{not-true}
-use native.Mathlib.Omega.{arith}
-use mathlib.Core.Bool.{true, false, true≢false, false≢true}
-use mathlib.Core.Path.{_≡_, refl, sym, ap, _∙_}
+use mathlib.Core.Bool.{true, false}
+use mathlib.Core.Path.{_≡_, sym, _∙_}
 use borrow.Author.Needs.{needs}
 use Rattle.file.proofs.IgvmFile.new.Statement.{statement}
 use Rattle.file.proofs.IgvmFile.new.Tie as tie

@@ -1,0 +1,55 @@
+-- What the tests of a row's body give: the row is in order by itself, kind by kind.
+-- Assumes nothing.
+use Prim.Native.Nat.{ℕ, _+_, _-_, _/_, _%_, _≤_}
+use native.Mathlib.Omega.{arith}
+use mathlib.Core.Path.{_≡_, refl}
+use mathlib.Core.Bool.{true, false}
+use mathlib.Core.List.{List}
+use lib.Dec.{leb}
+use lib.ListN.{length}
+use borrow.Author.Tests.{le-leb, le-ltb}
+use Rattle.le.specs.Le.{byteAt, leAt}
+use Rattle.igvm_defs.specs.declared.Arch.{Arch}
+use Rattle.igvm_defs.specs.Kinds.{kindOf, spans, lengthOk}
+use Rattle.igvm_defs.specs.Refusals.{isFault}
+use Rattle.addresses.specs.Addresses.{isMultiple, onPage}
+use Rattle.sheet.specs.Read.{codesOk}
+use Rattle.directive_header.specs.Directives.{directiveOf}
+use Rattle.rules.specs.Accepted.{ownDirectiveFault}
+use Rattle.rules.specs.Directives.{wrongArch}
+use Rattle.directive_body.specs.Sound.{Sound}
+
+module _ (arch : Arch) (b : List ℕ) where
+  pub page-sound : 18 ≤ length b → length b ≤ 4114 → leAt 8 b 0 % 4096 + leAt 2 b 16 / 4 ≡ 0 → Sound arch 32 b
+  unfolding kindOf spans lengthOk codesOk ownDirectiveFault directiveOf wrongArch isFault isMultiple
+  page-sound l h e =
+      let p : leAt 8 b 0 % 4096 ≡ 0 = omega arith in
+      let t : leAt 2 b 16 ≤ 3 = omega arith in
+      record {
+        list = refl;
+        long = le-leb 18 (length b) l;
+        codes = refl;
+        own = rw (p, le-ltb 3 (leAt 2 b 16) t, le-ltb 4096 (length b - 18) (omega arith));
+      }
+
+  pub area-sound : 12 ≤ length b → onPage (leAt 8 b 0) ≡ true → length b - 12 ≤ leAt 8 b 0 → Sound arch 33 b
+  unfolding kindOf spans lengthOk codesOk ownDirectiveFault directiveOf wrongArch isFault
+  area-sound l p h =
+      record {
+        list = refl;
+        long = le-leb 12 (length b) l;
+        codes = refl;
+        own = rw (p, le-ltb (leAt 8 b 0) (length b - 12) h);
+      }
+
+  pub memory-sound : length b ≡ 17 → leb (byteAt b 16) 1 ≡ true → onPage (leAt 8 b 0) ≡ true → onPage (leAt 4 b 12) ≡ true → Sound arch 44 b
+  unfolding kindOf spans lengthOk codesOk ownDirectiveFault directiveOf wrongArch isFault
+  memory-sound l c p q = record { list = refl; long = rw l; codes = c; own = rw (p, q) }
+
+  pub snp-sound : 14 ≤ length b → onPage (leAt 8 b 0) ≡ true → Sound arch 45 b
+  unfolding kindOf spans lengthOk codesOk ownDirectiveFault directiveOf wrongArch isFault
+  snp-sound l p = record { list = refl; long = le-leb 14 (length b) l; codes = refl; own = rw p }
+
+  pub range-sound : length b ≡ 16 → onPage (leAt 8 b 0) ≡ true → Sound arch 51 b
+  unfolding kindOf spans lengthOk codesOk ownDirectiveFault directiveOf wrongArch isFault
+  range-sound l p = record { list = refl; long = rw l; codes = refl; own = rw p }
