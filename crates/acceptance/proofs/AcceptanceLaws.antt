@@ -19,20 +19,20 @@ use Rattle.sheet.specs.Read.{endFault, rowsRefusal}
 use Rattle.sheet.specs.Walk.{ReadTo}
 use Rattle.sheet.proofs.Readable.{start-says}
 use Rattle.sheet.proofs.ReadLaws.{rows-end}
-use Rattle.headers.specs.Headers.{sheetHeaders}
-use Rattle.headers.proofs.HeaderLaws.{sheet-counts}
-use Rattle.initializations.specs.declared.RelocRegions.{RelocRegions}
-use Rattle.initializations.specs.Record.{anyRegion, regionsIn, HoldsRegions, HoldsRows}
-use Rattle.directives.specs.Record.{HoldsContexts, lacksContext}
+use Rattle.sheet_headers.specs.Headers.{sheetHeaders}
+use Rattle.sheet_headers.proofs.HeaderLaws.{sheet-counts}
+use Rattle.initialization_check.specs.declared.RelocRegions.{RelocRegions}
+use Rattle.initialization_check.specs.Record.{anyRegion, regionsIn, HoldsRegions, HoldsRows}
+use Rattle.directive_check.specs.Record.{HoldsContexts, lacksContext}
 use Rattle.initialization_header.specs.declared.IgvmInitializationHeader.{IgvmInitializationHeader}
 use Rattle.rules.specs.Regions.{tableHolds}
 use Rattle.rules.specs.Verdict.{platformFaults, initializationFaults, platformsRefusal, directivesRefusal}
 use Rattle.rules.proofs.Acceptance.{platforms-say, initializations-say, headers-say}
-use Rattle.directives.proofs.DirectiveRecordLaws.{holds-no-contexts}
+use Rattle.directive_check.proofs.DirectiveRecordLaws.{holds-no-contexts}
 use Rattle.directive_pass.proofs.DirectivePass.{directives-end}
-use Rattle.platform_rows.specs.Accepted.{PlatformsAccepted, HoldsCca}
-use Rattle.initialization_rows.specs.Accepted.{InitializationsAccepted}
-use Rattle.directive_rows.specs.Accepted.{firstDirective, DirectivesAccepted}
+use Rattle.platform_accept.specs.Accepted.{PlatformsAccepted, HoldsCca}
+use Rattle.initialization_accept.specs.Accepted.{InitializationsAccepted}
+use Rattle.directive_accept.specs.Accepted.{firstDirective, DirectivesAccepted}
 use Rattle.contexts.specs.Contexts.{anyLacks}
 use Rattle.clashes.specs.Clashes.{HoldsTables}
 use Rattle.acceptance.specs.Accepted.{RowsAccepted, ListsAccepted}

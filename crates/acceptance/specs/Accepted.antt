@@ -10,9 +10,9 @@ use Rattle.sheet.specs.Read.{rowsRefusal}
 use Rattle.sheet.specs.Walk.{ReadTo}
 use Rattle.rules.specs.Verdict.{platformsRefusal, initializationsRefusal}
 use Rattle.rules.specs.Accepted.{NotRefused}
-use Rattle.headers.specs.Headers.{sheetHeaders}
-use Rattle.initializations.specs.declared.RelocRegions.{RelocRegions}
-use Rattle.initializations.specs.Record.{HoldsRegions}
+use Rattle.sheet_headers.specs.Headers.{sheetHeaders}
+use Rattle.initialization_check.specs.declared.RelocRegions.{RelocRegions}
+use Rattle.initialization_check.specs.Record.{HoldsRegions}
 use Rattle.keep.specs.Kept.{Kept}
 
 -- none of 1 to 6 and of 8 to 34 applies to the rows, and what was found of them is kept

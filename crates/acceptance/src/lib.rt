@@ -9,9 +9,9 @@ ghost use Rattle.igvm_defs.specs.Refusals.{isFault};
 ghost use Rattle.igvm_defs.specs.Revision.{isX64};
 ghost use Rattle.sheet.specs.Head.{limits, headOf, rowCount, startFault};
 ghost use Rattle.sheet.specs.Walk.{ReadTo};
-ghost use Rattle.headers.specs.Headers.{sheetHeaders};
-ghost use Rattle.initializations.specs.Record.{regionsIn, HoldsRows};
-ghost use Rattle.directive_rows.specs.Accepted.{firstDirective, DirectivesAccepted};
+ghost use Rattle.sheet_headers.specs.Headers.{sheetHeaders};
+ghost use Rattle.initialization_check.specs.Record.{regionsIn, HoldsRows};
+ghost use Rattle.directive_accept.specs.Accepted.{firstDirective, DirectivesAccepted};
 ghost use Rattle.acceptance.specs.Accepted.{RowsAccepted, ListsAccepted};
 use sheet::Cursor;
 
@@ -43,7 +43,7 @@ fn accept_directives<'a>(
     ensures { λ r. ⌜ DirectivesAccepted (now (s .entry)) (r .at) (now (contexts .exit)) × (r .count ≡ n) ⌝ }
     ensures { λ r. ⌜ ((numbers : List ℕ) → HoldsRows (headOf (now (s .entry)) .platforms) numbers (regionsIn (now (masks .entry)) (now (gpas .entry)) (now (sizes .entry)) (now (vps .entry)) (now (vtls .entry)) (now (tables .entry)) n) (sheetHeaders (now (s .entry)) .initializations) → r .accepted ≡ true → RowsAccepted (now (s .entry)) (regionsIn (now (masks .entry)) (now (gpas .entry)) (now (sizes .entry)) (now (vps .entry)) (now (vtls .entry)) (now (tables .entry)) n) numbers (now (contexts .exit))) ⌝ }
 {
-    let at = directive_rows::accept(s, from, end, x64, masks, gpas, sizes, tables, n, contexts);
+    let at = directive_accept::accept(s, from, end, x64, masks, gpas, sizes, tables, n, contexts);
     if at.row < end {
         return Reached {
             at,
@@ -82,7 +82,7 @@ pub fn accept<'a>(
     requires { ⌜ now contexts ≡ (0 ∷ 0 ∷ 0 ∷ []) ⌝ }
     ensures { λ r. ⌜ ReadTo (now (s .entry)) (r .at) × (r .accepted ≡ true → RowsAccepted (now (s .entry)) (regionsIn (now (masks .exit)) (now (gpas .exit)) (now (sizes .exit)) (now (vps .exit)) (now (vtls .exit)) (now (tables .exit)) (r .count)) (now (rows .exit)) (now (contexts .exit))) × (firstDirective (now (s .entry)) ≤ r .at .row → DirectivesAccepted (now (s .entry)) (r .at) (now (contexts .exit))) ⌝ }
 {
-    let first = platform_rows::accept(s, Cursor::new(end), p, x64);
+    let first = platform_accept::accept(s, Cursor::new(end), p, x64);
     let a = first.at;
     if a.row < p {
         return Reached {
@@ -98,7 +98,7 @@ pub fn accept<'a>(
             accepted: false,
         };
     }
-    let second = initialization_rows::accept(
+    let second = initialization_accept::accept(
         s,
         a,
         p + i,

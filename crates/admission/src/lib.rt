@@ -27,7 +27,7 @@ fn verdict(s: &[u8]) -> Verdict
             directives: 0,
         };
     }
-    file::IgvmFile::new(s).verdict
+    igvm_file::IgvmFile::new(s).verdict
 }
 
 pub fn admit_line(s: &[u8]) -> Line

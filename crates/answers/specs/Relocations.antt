@@ -11,11 +11,11 @@ use Rattle.igvm_defs.specs.declared.Refusal.{Refusal}
 use Rattle.igvm_defs.specs.Refusals.{fault, noFault, refuse, isRefusal, inRow, orElse}
 use Rattle.sheet.specs.Head.{Limits}
 use Rattle.initialization_header.specs.declared.IgvmInitializationHeader.{IgvmInitializationHeader}
-use Rattle.headers.specs.Headers.{sheetHeaders}
+use Rattle.sheet_headers.specs.Headers.{sheetHeaders}
 use Rattle.rules.specs.declared.IgvmRelocatableRegion.{IgvmRelocatableRegion}
 use Rattle.rules.specs.declared.PageTableRegion.{PageTableRegion}
 use Rattle.rules.specs.Relocations.{regionCount, regionAt, pageTableAt, wordsOf, regionContains, relocationBaseValid}
-use Rattle.words.specs.Lent.{rowsPut}
+use Rattle.lent.specs.Lent.{rowsPut}
 use Rattle.answers.specs.declared.Relocations.{Relocations}
 use Rattle.answers.specs.declared.Checked.{Checked}
 use Rattle.answers.specs.Verdict.{verdictRefusal}

@@ -6,7 +6,7 @@ use Rattle.igvm_defs.specs.declared.Refusal.{Refusal}
 use Rattle.igvm_defs.specs.Refusals.{isRefusal, orElse}
 use Rattle.sheet.specs.Head.{Limits, headOf}
 use Rattle.sheet.specs.Read.{sheetRefusal}
-use Rattle.headers.specs.Headers.{sheetHeaders}
+use Rattle.sheet_headers.specs.Headers.{sheetHeaders}
 use Rattle.rules.specs.Verdict.{headersRefusal}
 use Rattle.answers.specs.declared.Verdict.{Verdict}
 

@@ -28,12 +28,12 @@ use Rattle.initialization_header.specs.declared.IgvmInitializationHeader.{IgvmI
 use Rattle.rules.specs.Regions.{regionPasses, tableHolds}
 use Rattle.rules.specs.Directives.{allocates, inserts, noContext}
 use Rattle.rules.specs.Verdict.{Headers, directiveFaults, noMatchingVpContext, directivesRefusal}
-use Rattle.headers.specs.Headers.{sheetHeaders}
-use Rattle.headers.proofs.HeaderLaws.{sheet-counts}
-use Rattle.initializations.specs.declared.RelocRegions.{RelocRegions}
-use Rattle.initializations.specs.Record.{entry, anyRegion, HoldsRegions}
-use Rattle.directives.specs.Record.{HoldsContexts, lacksContext, DirectiveStepped, howOf, howNamed, areaNumber}
-use Rattle.directives.proofs.DirectiveRecordLaws.{lacks-says, how-directive, allocates-says, inserts-says}
+use Rattle.sheet_headers.specs.Headers.{sheetHeaders}
+use Rattle.sheet_headers.proofs.HeaderLaws.{sheet-counts}
+use Rattle.initialization_check.specs.declared.RelocRegions.{RelocRegions}
+use Rattle.initialization_check.specs.Record.{entry, anyRegion, HoldsRegions}
+use Rattle.directive_check.specs.Record.{HoldsContexts, lacksContext, DirectiveStepped, howOf, howNamed, areaNumber}
+use Rattle.directive_check.proofs.DirectiveRecordLaws.{lacks-says, how-directive, allocates-says, inserts-says}
 use Rattle.clashes.specs.Clashes.{HoldsTables}
 use Rattle.directive_pass.specs.Passed.{firstDirective, DirectivesPassed}
 

@@ -6,9 +6,9 @@ use mathlib.Core.Path.{_≡_}
 use Rattle.igvm_defs.specs.declared.Refusal.{Refusal}
 use Rattle.igvm_defs.specs.Refusals.{isRefusal}
 use Rattle.sheet.specs.Head.{headOf}
-use Rattle.headers.specs.Headers.{sheetHeaders}
+use Rattle.sheet_headers.specs.Headers.{sheetHeaders}
 use Rattle.rules.specs.Verdict.{directivesRefusal}
-use Rattle.directives.specs.Record.{HoldsContexts}
+use Rattle.directive_check.specs.Record.{HoldsContexts}
 
 -- how many rows stand before the directive rows
 abbrev pub firstDirective : List ℕ → ℕ

@@ -7,19 +7,19 @@ ghost use Rattle.igvm_defs.specs.Refusals.{isFault};
 ghost use Rattle.sheet.specs.Head.{limits, headOf, rowCount};
 ghost use Rattle.sheet.specs.Read.{Readable};
 ghost use Rattle.sheet.specs.Walk.{cursorAt};
-ghost use Rattle.headers.specs.Headers.{sheetHeaders};
+ghost use Rattle.sheet_headers.specs.Headers.{sheetHeaders};
 ghost use Rattle.initialization_header.specs.declared.IgvmInitializationHeader.{IgvmInitializationHeader};
 ghost use Rattle.rows.specs.Rows.{Rows, any, before};
 ghost use Rattle.rules.specs.Directives.{allocates, inserts, badArea, insideTable};
 ghost use Rattle.rules.specs.Verdict.{directiveFaults};
-ghost use Rattle.initializations.specs.Record.{anyRegion, HoldsRegions};
-ghost use Rattle.directives.specs.Record.{HoldsContexts, lacksContext};
+ghost use Rattle.initialization_check.specs.Record.{anyRegion, HoldsRegions};
+ghost use Rattle.directive_check.specs.Record.{HoldsContexts, lacksContext};
 ghost use Rattle.clashes.specs.Clashes.{HoldsTables};
 ghost use Rattle.directive_pass.specs.Passed.{firstDirective, DirectivesPassed};
 use directive_header::IgvmDirectiveHeader;
 use igvm_defs::Fault;
 use igvm_defs::Refusal;
-use initializations::RelocRegions;
+use initialization_check::RelocRegions;
 use rules::Region;
 use sheet::Cursor;
 use sheet::SheetHead;
@@ -45,7 +45,7 @@ fn known_area(s: &[u8], head: SheetHead, n: usize, area: u32) -> KnownArea
     let mut inserted = false;
     let mut i = 0;
     while i < n {
-        let name = directives::naming(c.kind(s), c.body(s));
+        let name = directive_check::naming(c.kind(s), c.body(s));
         let same = area == name.area;
         allocated = allocated | ((name.how == 0) & same);
         inserted = inserted | ((name.how == 2) & same);
@@ -63,7 +63,7 @@ fn bad_area(s: &[u8], head: SheetHead, c: Cursor, i: usize) -> bool
     requires { ⌜ Readable limits (now s) × (head ≡ headOf (now s)) × (i < headOf (now s) .directives) × (c ≡ cursorAt (now s) (firstDirective (now s) + i)) ⌝ }
     ensures { λ r. ⌜ r ≡ badArea (before i (sheetHeaders (now (s .entry)) .directives)) (sheetHeaders (now (s .entry)) .directives .row i) ⌝ }
 {
-    let name = directives::naming(c.kind(s), c.body(s));
+    let name = directive_check::naming(c.kind(s), c.body(s));
     if name.how == 3 {
         return false;
     }
@@ -91,7 +91,7 @@ fn no_matching_vp_context(regions: RelocRegions, contexts: [u32; 3]) -> bool
             vtl: regions.vtl[i],
             page_table: regions.page_table[i],
         };
-        found = found | directives::lacks_context(contexts, r);
+        found = found | directive_check::lacks_context(contexts, r);
         i += 1;
     }
     found
@@ -150,7 +150,7 @@ pub fn validate_directive_headers(
     let mut i = from.row - first;
     while i < n {
         let bad = bad_area(s, head, c, i);
-        let h = headers::directive_at(s, c);
+        let h = sheet_headers::directive_at(s, c);
         let inside = inside_table(
             &regions.mask,
             &regions.gpa,
@@ -159,7 +159,7 @@ pub fn validate_directive_headers(
             held,
             h,
         );
-        let step = directives::step(contexts, arch, bad, inside, h);
+        let step = directive_check::step(contexts, arch, bad, inside, h);
         let fault = step.fault;
         let next = step.contexts;
         contexts = next;

@@ -21,8 +21,8 @@ use Rattle.sheet.specs.Read.{codesOk}
 use Rattle.directive_header.specs.Directives.{directiveOf}
 use Rattle.rules.specs.Accepted.{ownDirectiveFault}
 use Rattle.rules.specs.Directives.{wrongArch, isContext}
-use Rattle.directives.specs.Record.{namesArea}
-use Rattle.directives.proofs.DirectiveRecordLaws.{context-set}
+use Rattle.directive_check.specs.Record.{namesArea}
+use Rattle.directive_check.proofs.DirectiveRecordLaws.{context-set}
 use Rattle.directive_body.specs.Sound.{Sound}
 use Rattle.directive_row.specs.Row.{VbsContext, PlainRow}
 

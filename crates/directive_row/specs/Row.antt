@@ -13,7 +13,7 @@ use Rattle.initialization_header.specs.declared.IgvmInitializationHeader.{IgvmI
 use Rattle.directive_header.specs.declared.IgvmDirectiveHeader.{IgvmDirectiveHeader}
 use Rattle.directive_header.specs.Directives.{directiveOf}
 use Rattle.rules.specs.Directives.{allocates, inserts, badArea, insideTable, isContext}
-use Rattle.directives.specs.Record.{namesArea}
+use Rattle.directive_check.specs.Record.{namesArea}
 use Rattle.directive_body.specs.Sound.{Sound}
 use Rattle.area_table.specs.AreaTable.{HoldsAreas}
 

@@ -11,7 +11,7 @@ ghost use Rattle.answers.specs.Numbers.{numberOf, verdictNumbers, relocationNum
 pub extern "C" fn igvm_verdict(sheet: &[u8], which: u32) -> u64
     ensures { λ r. ⌜ r ≡ numberOf which (verdictNumbers (verdictOf limits (now (sheet .entry)))) ⌝ }
 {
-    numbers::verdict_number(file::IgvmFile::new(sheet).verdict, which)
+    numbers::verdict_number(igvm_file::IgvmFile::new(sheet).verdict, which)
 }
 
 // 0 number, 1 row, 2 detail, 3 count, 4 page table (1 or 0), 5 gpa, 6 size, 7 used size, 8 VP index, 9 VTL. The lent bytes take the regions' words.

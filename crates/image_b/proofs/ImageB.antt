@@ -24,7 +24,7 @@ use Rattle.rules.specs.Initializations.{validateRegion, initializationFault}
 use Rattle.rules.specs.Directives.{wrongArch, badArea, directiveFault, noContext}
 use Rattle.rules.specs.Verdict.{noPlatform, noMatchingVpContext, platformsRefusal, initializationsRefusal, directivesRefusal, headersRefusal}
 use Rattle.rules.specs.Relocations.{regionCount, regionAt}
-use Rattle.headers.specs.Headers.{sheetHeaders}
+use Rattle.sheet_headers.specs.Headers.{sheetHeaders}
 use Rattle.answers.specs.Verdict.{verdictRefusal}
 use Rattle.answers.specs.Relocations.{maskFault, regionFault, checkRefusal, checkOf}
 use Rattle.image_b.specs.Claims.{claims, AllTrue}

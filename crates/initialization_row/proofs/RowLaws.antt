@@ -33,7 +33,7 @@ use Rattle.rules.specs.Initializations.{validateRegion, validateTable, withoutC
 use Rattle.rules.specs.Accepted.{ownInitializationFault}
 use Rattle.rules.proofs.Acceptance.{without-cca}
 use Rattle.initialization_row.specs.Row.{InOrder}
-use Rattle.platform_rows.specs.Accepted.{HoldsCca}
+use Rattle.platform_accept.specs.Accepted.{HoldsCca}
 
 -- ---- masks
 

@@ -8,7 +8,7 @@ ghost use Rattle.igvm_defs.specs.Revision.{isX64};
 ghost use Rattle.addresses.specs.Addresses.{endsBeyond};
 ghost use Rattle.platform_header.specs.declared.IgvmPlatformHeader.{IgvmPlatformHeader};
 ghost use Rattle.rules.specs.declared.Region.{Region};
-ghost use Rattle.platform_rows.specs.Accepted.{HoldsCca};
+ghost use Rattle.platform_accept.specs.Accepted.{HoldsCca};
 ghost use Rattle.initialization_row.specs.Row.{InOrder};
 use rules::Region;
 
@@ -73,7 +73,7 @@ fn region_row(b: &[u8]) -> RowFound
         vtl: b[47],
         page_table: false,
     };
-    let own = initializations::validate_region(
+    let own = initialization_check::validate_region(
         le::u64_at(b, 4),
         region.gpa,
         region.size,
@@ -102,7 +102,7 @@ fn table_row(b: &[u8]) -> RowFound
         vtl: b[30],
         page_table: true,
     };
-    let own = initializations::validate_table(region.gpa, region.size, le::u64_at(b, 20));
+    let own = initialization_check::validate_table(region.gpa, region.size, le::u64_at(b, 20));
     RowFound {
         ok: (b[30] <= 2) & !own.is_fault() & has_room(region),
         found: true,

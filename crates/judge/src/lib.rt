@@ -6,7 +6,7 @@ ghost use Prim.Native.Nat.{_≤_};
 ghost use lib.ListN.{length};
 ghost use Rattle.igvm_defs.specs.Refusals.{isFault, isRefusal};
 ghost use Rattle.sheet.specs.Head.{limits, headOf, startFault};
-ghost use Rattle.initializations.specs.Record.{regionsIn};
+ghost use Rattle.initialization_check.specs.Record.{regionsIn};
 ghost use Rattle.answers.specs.Verdict.{verdictOf, verdictRefusal};
 ghost use Rattle.keep.specs.Kept.{Kept};
 use sheet::SheetHead;

@@ -20,11 +20,11 @@ use Rattle.initialization_header.specs.declared.IgvmInitializationHeader.{IgvmI
 use Rattle.initialization_header.specs.Initializations.{initializationOf}
 use Rattle.rules.specs.declared.Region.{Region}
 use Rattle.rules.specs.Regions.{regionOf}
-use Rattle.headers.specs.Headers.{sheetHeaders}
-use Rattle.headers.proofs.HeaderLaws.{sheet-counts}
-use Rattle.initializations.specs.declared.RelocRegions.{RelocRegions}
-use Rattle.initializations.specs.Record.{HoldsRegions, HoldsRows, stored}
-use Rattle.initializations.proofs.RecordLaws.{Room, Lent, lent-stored, holds-none, rows-none, holds-stored, rows-stored}
+use Rattle.sheet_headers.specs.Headers.{sheetHeaders}
+use Rattle.sheet_headers.proofs.HeaderLaws.{sheet-counts}
+use Rattle.initialization_check.specs.declared.RelocRegions.{RelocRegions}
+use Rattle.initialization_check.specs.Record.{HoldsRegions, HoldsRows, stored}
+use Rattle.initialization_check.proofs.RecordLaws.{Room, Lent, lent-stored, holds-none, rows-none, holds-stored, rows-stored}
 
 -- at the head of the loop: the cursor stands at row i of n initialization rows, which follow `first` others, and the record has the regions of the rows
 -- before it, each with its row

@@ -2,10 +2,10 @@
 use Prim.Native.Nat.{ℕ}
 use mathlib.Core.List.{List}
 use Rattle.sheet.specs.Head.{headOf}
-use Rattle.headers.specs.Headers.{sheetHeaders}
-use Rattle.initializations.specs.declared.RelocRegions.{RelocRegions}
-use Rattle.initializations.specs.Record.{HoldsRegions, HoldsRows}
-use Rattle.directives.specs.Record.{HoldsContexts}
+use Rattle.sheet_headers.specs.Headers.{sheetHeaders}
+use Rattle.initialization_check.specs.declared.RelocRegions.{RelocRegions}
+use Rattle.initialization_check.specs.Record.{HoldsRegions, HoldsRows}
+use Rattle.directive_check.specs.Record.{HoldsContexts}
 
 pub record Kept (s : List ℕ) (held : RelocRegions) (numbers contexts : List ℕ) : Type 0 where
   pub regions : HoldsRegions held (sheetHeaders s .initializations)

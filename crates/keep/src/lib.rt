@@ -4,8 +4,8 @@ ghost use Prim.Native.Nat.{_≤_};
 ghost use lib.ListN.{length};
 ghost use Rattle.sheet.specs.Head.{limits, headOf};
 ghost use Rattle.sheet.specs.Read.{Readable};
-ghost use Rattle.headers.specs.Headers.{sheetHeaders};
-ghost use Rattle.initializations.specs.Record.{regionsIn, HoldsRegions, HoldsRows};
+ghost use Rattle.sheet_headers.specs.Headers.{sheetHeaders};
+ghost use Rattle.initialization_check.specs.Record.{regionsIn, HoldsRegions, HoldsRows};
 use sheet::SheetHead;
 
 // How many regions the initialization rows have. A row's region is stored in place in any case, with the row's number in the sheet, from 1, and counted
@@ -32,7 +32,7 @@ pub fn keep_regions<'a>(
     let mut n = 0;
     let mut i = 0;
     while i < count {
-        let f = initializations::region_of(headers::initialization_at(s, c));
+        let f = initialization_check::region_of(sheet_headers::initialization_at(s, c));
         let r = f.region;
         masks[n] = r.mask;
         gpas[n] = r.gpa;

@@ -20,7 +20,7 @@ use Rattle.rules.specs.declared.IgvmRelocatableRegion.{IgvmRelocatableRegion}
 use Rattle.rules.specs.declared.PageTableRegion.{PageTableRegion}
 use Rattle.rules.specs.Relocations.{regionCount, regionAt, pageTableAt}
 use Rattle.rules.proofs.FaultLaws.{refuse-none, else-none}
-use Rattle.words.proofs.LentLaws.{same-words}
+use Rattle.lent.proofs.LentLaws.{same-words}
 use Rattle.answers.specs.Verdict.{verdictRefusal}
 use Rattle.answers.specs.Relocations.{sheetInitializations, maskFault, wordsFault, relocationsRefusal, foundOf, relocationsOf, regionWords, wordsAfter, regionFault, checkRefusal, checkOf}
 use Rattle.order.specs.Demand.{Accepted}

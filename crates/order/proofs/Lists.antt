@@ -19,7 +19,7 @@ use Rattle.directive_header.specs.Directives.{directiveOf}
 use Rattle.directive_header.proofs.DirectiveLaws.{directive-local, area-directive}
 use Rattle.rules.specs.Reordered as rules
 use Rattle.rules.specs.Reordered.{SameMask, SameArea}
-use Rattle.headers.specs.Headers.{sheetHeaders}
+use Rattle.sheet_headers.specs.Headers.{sheetHeaders}
 use Rattle.order.specs.Reordered.{Alike, PairedRows, Reordered}
 use Rattle.order.proofs.ReadableToo.{heads, readable-too}
 

@@ -29,7 +29,7 @@ use Rattle.rules.specs.Platforms.{validatePlatform, sameType, platformFault, la
 use Rattle.rules.specs.Initializations.{bitWithoutCca, initializationFault}
 use Rattle.rules.specs.Directives.{wrongArch, allocates, inserts, isAllocated, badArea, directiveFault}
 use Rattle.rules.specs.Verdict.{noPlatform, noMatchingVpContext, platformsRefusal, initializationsRefusal, directivesRefusal, headersRefusal}
-use Rattle.headers.specs.Headers.{sheetHeaders}
+use Rattle.sheet_headers.specs.Headers.{sheetHeaders}
 use Rattle.answers.specs.Verdict.{verdictRefusal}
 use Rattle.order.specs.Reordered.{PairedRows, OneMask, OneArea, Reordered}
 use Rattle.order.specs.Demand.{Accepted}

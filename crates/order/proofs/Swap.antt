@@ -28,7 +28,7 @@ use Rattle.rules.specs.Platforms.{validatePlatform, sameType, platformFault, la
 use Rattle.rules.specs.Initializations.{validateRegion, validateTable, bitWithoutCca, initializationFault}
 use Rattle.rules.specs.Directives.{wrongArch, allocates, inserts, isAllocated, badArea, directiveFault, noContext}
 use Rattle.rules.specs.Verdict.{noPlatform, noMatchingVpContext, platformsRefusal, initializationsRefusal, directivesRefusal, headersRefusal}
-use Rattle.headers.specs.Headers.{sheetHeaders}
+use Rattle.sheet_headers.specs.Headers.{sheetHeaders}
 use Rattle.answers.specs.Verdict.{verdictRefusal}
 use Rattle.answers.specs.Relocations.{relocationsOf, wordsAfter}
 use Rattle.order.specs.Reordered.{OneMask, OneArea, Reordered}

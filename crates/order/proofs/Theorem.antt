@@ -13,7 +13,7 @@ use Rattle.rules.proofs.FaultLaws.{else-none}
 use Rattle.rules.proofs.Order.{same-answers}
 use Rattle.rules.proofs.QueryLaws.{number-below}
 use Rattle.rules.proofs.SoundLaws.{accepted-sound}
-use Rattle.headers.specs.Headers.{sheetHeaders}
+use Rattle.sheet_headers.specs.Headers.{sheetHeaders}
 use Rattle.answers.specs.Verdict.{verdictRefusal}
 use Rattle.answers.specs.Relocations.{sheetInitializations}
 use Rattle.order.specs.Reordered.{Reordered}

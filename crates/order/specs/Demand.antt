@@ -13,7 +13,7 @@ use Rattle.sheet.specs.Read.{Readable}
 use Rattle.rules.specs.Relocations.{isRelocatable}
 use Rattle.rules.specs.Reordered.{regionNumber}
 use Rattle.rules.specs.Sound.{Sound}
-use Rattle.headers.specs.Headers.{sheetHeaders}
+use Rattle.sheet_headers.specs.Headers.{sheetHeaders}
 use Rattle.answers.specs.Verdict.{verdictRefusal}
 use Rattle.answers.specs.Relocations.{sheetInitializations, relocationsOf, wordsAfter, baseCheckOf}
 use Rattle.order.specs.Reordered.{Reordered}

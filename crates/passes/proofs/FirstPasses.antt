@@ -28,20 +28,20 @@ use Rattle.platform_header.specs.Platforms.{platformOf}
 use Rattle.initialization_header.specs.declared.IgvmInitializationHeader.{IgvmInitializationHeader}
 use Rattle.initialization_header.specs.Initializations.{initializationOf}
 use Rattle.rules.specs.Verdict.{Headers, platformFaults, initializationFaults, noPlatform, platformsRefusal, initializationsRefusal}
-use Rattle.headers.specs.Headers.{sheetHeaders}
-use Rattle.platforms.specs.declared.Platforms.{Platforms}
-use Rattle.platforms.specs.Record.{HoldsPlatforms, PlatformStepped}
-use Rattle.platforms.proofs.RecordLaws.{holds-count}
-use Rattle.initializations.specs.declared.RelocRegions.{RelocRegions}
+use Rattle.sheet_headers.specs.Headers.{sheetHeaders}
+use Rattle.platform_check.specs.declared.Platforms.{Platforms}
+use Rattle.platform_check.specs.Record.{HoldsPlatforms, PlatformStepped}
+use Rattle.platform_check.proofs.RecordLaws.{holds-count}
+use Rattle.initialization_check.specs.declared.RelocRegions.{RelocRegions}
 use Rattle.rules.specs.declared.Region.{Region}
-use Rattle.initializations.specs.Record.{HoldsRegions, HoldsClashes, InitializationStepped, stored}
+use Rattle.initialization_check.specs.Record.{HoldsRegions, HoldsClashes, InitializationStepped, stored}
 use Rattle.extents.specs.declared.Reach.{Reach}
 use Rattle.extents.specs.Extents.{apartFrom, Covers}
 use Rattle.extents.proofs.ExtentLaws.{covers-more}
-use Rattle.initializations.proofs.RecordLaws.{holds-stored, holds-clashes}
+use Rattle.initialization_check.proofs.RecordLaws.{holds-stored, holds-clashes}
 use Rattle.rules.specs.Regions.{overlap}
 use Rattle.passes.specs.Passes.{PlatformsPassed, InitializationsPassed, Lengths}
-use Rattle.headers.proofs.HeaderLaws.{sheet-counts}
+use Rattle.sheet_headers.proofs.HeaderLaws.{sheet-counts}
 
 -- ---- any list
 

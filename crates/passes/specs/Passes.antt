@@ -6,11 +6,11 @@ use mathlib.Core.Path.{_≡_}
 use lib.ListN.{length}
 use Rattle.igvm_defs.specs.declared.Refusal.{Refusal}
 use Rattle.igvm_defs.specs.Refusals.{isRefusal}
-use Rattle.headers.specs.Headers.{sheetHeaders}
-use Rattle.platforms.specs.declared.Platforms.{Platforms}
-use Rattle.platforms.specs.Record.{HoldsPlatforms}
-use Rattle.initializations.specs.declared.RelocRegions.{RelocRegions}
-use Rattle.initializations.specs.Record.{HoldsRegions}
+use Rattle.sheet_headers.specs.Headers.{sheetHeaders}
+use Rattle.platform_check.specs.declared.Platforms.{Platforms}
+use Rattle.platform_check.specs.Record.{HoldsPlatforms}
+use Rattle.initialization_check.specs.declared.RelocRegions.{RelocRegions}
+use Rattle.initialization_check.specs.Record.{HoldsRegions}
 use Rattle.rules.specs.Verdict.{platformsRefusal, initializationsRefusal}
 
 -- the platform rows' refusal; where there is none, the record holds the platform rows

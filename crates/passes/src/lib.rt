@@ -2,14 +2,14 @@
 ghost use mathlib.Core.Path.{_≡_};
 ghost use Rattle.sheet.specs.Head.{limits, headOf};
 ghost use Rattle.sheet.specs.Read.{Readable};
-ghost use Rattle.headers.specs.Headers.{sheetHeaders};
-ghost use Rattle.platforms.specs.Record.{HoldsPlatforms};
+ghost use Rattle.sheet_headers.specs.Headers.{sheetHeaders};
+ghost use Rattle.platform_check.specs.Record.{HoldsPlatforms};
 ghost use Rattle.passes.specs.Passes.{PlatformsPassed, InitializationsPassed, Lengths};
 use extents::Reach;
 use igvm_defs::Fault;
 use igvm_defs::Refusal;
-use initializations::RelocRegions;
-use platforms::Platforms;
+use initialization_check::RelocRegions;
+use platform_check::Platforms;
 use sheet::Cursor;
 use sheet::SheetHead;
 
@@ -29,7 +29,7 @@ pub fn validate_platform_headers(s: &[u8], head: SheetHead) -> PlatformsPass
     let mut platforms = Platforms::new();
     let mut i = 0;
     while i < count {
-        let step = platforms.step(arch, headers::platform_at(s, c));
+        let step = platforms.step(arch, sheet_headers::platform_at(s, c));
         let fault = step.fault;
         let next = step.platforms;
         platforms = next;
@@ -76,8 +76,8 @@ pub fn validate_initialization_headers(
     let mut i = 0;
     while i < n {
         let k = regions.count;
-        let h = headers::initialization_at(s, c);
-        let step = initializations::check(
+        let h = sheet_headers::initialization_at(s, c);
+        let step = initialization_check::check(
             arch,
             platforms,
             h,

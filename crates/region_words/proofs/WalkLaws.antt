@@ -17,8 +17,8 @@ use Rattle.sheet.specs.Read.{Readable}
 use Rattle.sheet.specs.Walk.{cursorAt}
 use Rattle.initialization_header.specs.Initializations.{initializationOf}
 use Rattle.rules.specs.Relocations.{isRelocatable, isPageTable, relocatableOf, regionCount}
-use Rattle.words.specs.Lent.{rowPut, rowsPut}
-use Rattle.words.proofs.LentLaws.{rows-none, rows-length}
+use Rattle.lent.specs.Lent.{rowPut, rowsPut}
+use Rattle.lent.proofs.LentLaws.{rows-none, rows-length}
 use Rattle.answers.specs.Relocations.{sheetInitializations, regionWords}
 use Rattle.regions.proofs.FoundLaws.{regions-more, regions-few}
 use Rattle.regions.proofs.TurnLaws.{AtInitialization, at-initialization, first-row, all-rows}

@@ -19,8 +19,8 @@ use Rattle.initialization_header.specs.Initializations.{initializationOf, reloc
 use Rattle.initialization_header.proofs.InitializationLaws.{kind-initialization}
 use Rattle.rules.specs.Relocations.{isRelocatable, relocatableOf, regionCount, regionAt}
 use Rattle.rules.proofs.QueryLaws.{number-below, region-found}
-use Rattle.words.specs.Lent.{rowPut, rowsPut}
-use Rattle.words.proofs.LentLaws.{rows-more}
+use Rattle.lent.specs.Lent.{rowPut, rowsPut}
+use Rattle.lent.proofs.LentLaws.{rows-more}
 use Rattle.answers.specs.Relocations.{regionWords}
 use Rattle.regions.proofs.FoundLaws.{regions-more}
 

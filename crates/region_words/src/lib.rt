@@ -12,7 +12,7 @@ ghost use Rattle.sheet.specs.Table.{rowKind, bodyOf};
 ghost use Rattle.sheet.specs.Read.{codesOk, Readable};
 ghost use Rattle.initialization_header.specs.Initializations.{initializationOf, relocatableRegionOf};
 ghost use Rattle.rules.specs.Relocations.{isRelocatable, isPageTable, relocatableOf, pageTableOf, regionCount, regionAt, pageTableAt};
-ghost use Rattle.words.specs.Lent.{rowPut, rowsPut};
+ghost use Rattle.lent.specs.Lent.{rowPut, rowsPut};
 ghost use Rattle.answers.specs.Relocations.{sheetInitializations, regionWords};
 ghost use Rattle.regions.specs.Found.{foundTable};
 use regions::FoundTable;
@@ -67,7 +67,7 @@ fn put_region(given: u32, kind: u32, b: &[u8], n: usize, words: &mut [u8]) -> us
     ensures { λ _. ⌜ now (words .exit) ≡ cond (isRelocatable given (initializationOf kind (now (b .entry)))) (rowPut n (regionWords (relocatableOf (initializationOf kind (now (b .entry))))) (now (words .entry))) (now (words .entry)) ⌝ }
 {
     if is_region(given, kind, b) {
-        words::put_words(words, n, words_of(b));
+        lent::put_words(words, n, words_of(b));
         return n + 1;
     }
     n
@@ -97,7 +97,7 @@ fn found_table(s: &[u8], t: usize, end: usize) -> FoundTable
             table: regions::NO_PAGE_TABLE,
         };
     }
-    regions::page_table_of(headers::initialization_at(s, sheet::cursor_at(s, t)))
+    regions::page_table_of(sheet_headers::initialization_at(s, sheet::cursor_at(s, t)))
 }
 
 // How many regions were put, and the page-table region.

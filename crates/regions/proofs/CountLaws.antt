@@ -14,7 +14,7 @@ use Rattle.initialization_header.specs.declared.IgvmInitializationHeader.the-va
 use Rattle.rules.specs.declared.Region.{Region}
 use Rattle.rules.specs.Regions.{regionPasses}
 use Rattle.rules.specs.Relocations.{isRelocatable, regionCount}
-use Rattle.initializations.specs.Record.{HoldsRows, regionsIn}
+use Rattle.initialization_check.specs.Record.{HoldsRows, regionsIn}
 
 -- a region of the mask is one that is no page table, and whose mask holds every bit
 abbrev ofMask : ℕ → Region → Bool

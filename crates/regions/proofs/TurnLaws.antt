@@ -17,7 +17,7 @@ use Rattle.sheet.specs.Read.{codesOk, Readable}
 use Rattle.sheet.specs.Walk.{cursorAt, AtRow}
 use Rattle.sheet.proofs.Readable.{readable-bounds, readable-row, readable-least, at-row, initialization-row}
 use Rattle.initialization_header.specs.Initializations.{initializationOf}
-use Rattle.headers.specs.Headers.{sheetHeaders}
+use Rattle.sheet_headers.specs.Headers.{sheetHeaders}
 use Rattle.answers.specs.Relocations.{sheetInitializations}
 
 -- the cursor stands at initialization row i

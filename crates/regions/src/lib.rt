@@ -209,7 +209,7 @@ pub fn region_at(s: &[u8], head: SheetHead, given: u32, k: u64) -> FoundRegion
     let mut seen: u64 = 0;
     let mut i = 0;
     while i < n {
-        let h = headers::initialization_at(s, c);
+        let h = sheet_headers::initialization_at(s, c);
         found = region_step(given, h, seen == k, found);
         seen += one_if(is_relocatable(given, h), 1);
         c = c.next(s);

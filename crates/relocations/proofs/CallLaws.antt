@@ -16,14 +16,14 @@ use Rattle.igvm_defs.proofs.RefusalLaws.{orElse-first, orElse-later, else-refus
 use Rattle.sheet.specs.Head.{Limits, limits}
 use Rattle.sheet.specs.Read.{Readable, sheetRefusal}
 use Rattle.sheet.proofs.Readable.{readable-bounds, sheet-says}
-use Rattle.headers.specs.Headers.{sheetHeaders}
-use Rattle.initializations.specs.declared.RelocRegions.{RelocRegions}
+use Rattle.sheet_headers.specs.Headers.{sheetHeaders}
+use Rattle.initialization_check.specs.declared.RelocRegions.{RelocRegions}
 use Rattle.keep.specs.Kept.{Kept}
 use Rattle.rules.specs.Relocations.{regionCount, regionAt, pageTableAt}
 use Rattle.rules.specs.declared.IgvmRelocatableRegion.{IgvmRelocatableRegion}
 use Rattle.rules.specs.declared.PageTableRegion.{PageTableRegion}
-use Rattle.words.specs.Lent.{rowsPut}
-use Rattle.words.proofs.LentLaws.{rows-none}
+use Rattle.lent.specs.Lent.{rowsPut}
+use Rattle.lent.proofs.LentLaws.{rows-none}
 use Rattle.regions.specs.declared.FoundRegion.{FoundRegion}
 use Rattle.regions.specs.declared.FoundTable.{FoundTable}
 use Rattle.regions.specs.Found.{foundRegion, foundTable}

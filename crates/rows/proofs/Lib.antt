@@ -1,3 +1,5 @@
 pub mod Bools
 pub mod BelowLaws
 pub mod PairedLaws
+pub mod Kit
+pub mod Walks

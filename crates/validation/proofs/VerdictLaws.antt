@@ -13,7 +13,7 @@ use Rattle.sheet.specs.Read.{rowsRefusal, sheetRefusal}
 use Rattle.sheet.proofs.ReadLaws.{start-stop, sheet-stop, sheet-end}
 use Rattle.rules.specs.Accepted.{NotRefused}
 use Rattle.rules.proofs.Acceptance.{headers-say}
-use Rattle.headers.specs.Headers.{sheetHeaders}
+use Rattle.sheet_headers.specs.Headers.{sheetHeaders}
 use Rattle.rules.specs.Verdict.{Headers, directiveFaults, noMatchingVpContext, platformsRefusal, initializationsRefusal, directivesRefusal, headersRefusal}
 use Rattle.answers.specs.declared.Verdict.{Verdict}
 use Rattle.answers.specs.Verdict.{verdictRefusal, verdictOf}

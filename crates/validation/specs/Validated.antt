@@ -6,9 +6,9 @@ use mathlib.Core.Path.{_≡_}
 use Rattle.igvm_defs.specs.declared.Refusal.{Refusal}
 use Rattle.igvm_defs.specs.Refusals.{isRefusal}
 use Rattle.sheet.specs.Head.{limits}
-use Rattle.headers.specs.Headers.{sheetHeaders}
+use Rattle.sheet_headers.specs.Headers.{sheetHeaders}
 use Rattle.rules.specs.Verdict.{headersRefusal}
-use Rattle.directives.specs.Record.{HoldsContexts}
+use Rattle.directive_check.specs.Record.{HoldsContexts}
 use Rattle.answers.specs.Verdict.{verdictRefusal}
 
 -- the headers' refusal; where there is none, the masks hold the contexts

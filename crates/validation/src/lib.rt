@@ -9,11 +9,11 @@ ghost use Rattle.igvm_defs.specs.Refusals.{noRefusal, isFault, isRefusal};
 ghost use Rattle.sheet.specs.Head.{limits, headOf, rowCount, startFault};
 ghost use Rattle.sheet.specs.Read.{Readable, sheetRefusal};
 ghost use Rattle.sheet.specs.Walk.{cursorAt, ReadTo};
-ghost use Rattle.headers.specs.Headers.{sheetHeaders};
+ghost use Rattle.sheet_headers.specs.Headers.{sheetHeaders};
 ghost use Rattle.rules.specs.Verdict.{directiveFaults};
-ghost use Rattle.directives.specs.Record.{HoldsContexts};
-ghost use Rattle.directive_rows.specs.Accepted.{firstDirective, DirectivesAccepted};
-ghost use Rattle.initializations.specs.Record.{regionsIn};
+ghost use Rattle.directive_check.specs.Record.{HoldsContexts};
+ghost use Rattle.directive_accept.specs.Accepted.{firstDirective, DirectivesAccepted};
+ghost use Rattle.initialization_check.specs.Record.{regionsIn};
 ghost use Rattle.answers.specs.Verdict.{verdictOf, verdictRefusal};
 ghost use Rattle.keep.specs.Kept.{Kept};
 ghost use Rattle.validation.specs.Validated.{HeadersPassed, VerdictPassed};
@@ -80,7 +80,7 @@ fn validate_from(s: &[u8], head: SheetHead, from: Cursor, contexts: [u32; 3]) ->
     requires { ⌜ (isFault (startFault limits (now s)) ≡ false) × (head ≡ headOf (now s)) × ReadTo (now s) from × (firstDirective (now s) ≤ from .row → DirectivesAccepted (now s) from contexts) ⌝ }
     ensures { λ r. ⌜ VerdictPassed (now (s .entry)) (r .refusal) (r .contexts) ⌝ }
 {
-    let read = reading::read_from(s, head, from);
+    let read = sheet_rows::read_from(s, head, from);
     if read.is_refusal() {
         return no_contexts(read);
     }

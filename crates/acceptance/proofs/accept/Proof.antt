@@ -1,11 +1,11 @@
 use Rattle.acceptance.specs.Accepted.{ListsAccepted}
-use Rattle.initializations.specs.Record.{regionsIn, HoldsRows}
+use Rattle.initialization_check.specs.Record.{regionsIn, HoldsRows}
 use Rattle.sheet.specs.Head.{headOf}
-use Rattle.headers.proofs.HeaderLaws.{sheet-counts}
+use Rattle.sheet_headers.proofs.HeaderLaws.{sheet-counts}
 use Rattle.acceptance.proofs.AcceptanceLaws.{table-room, platforms-none, initializations-none, none-passed}
-use Rattle.platform_rows.specs.Accepted.{HoldsCca}
+use Rattle.platform_accept.specs.Accepted.{HoldsCca}
 use Rattle.rules.specs.Verdict.{platformsRefusal}
-use Rattle.headers.specs.Headers.{sheetHeaders}
+use Rattle.sheet_headers.specs.Headers.{sheetHeaders}
 use Rattle.sheet.proofs.ReadLaws.{read-none}
 use Rattle.sheet.proofs.Readable.{Bounds, start-says, started-bounds}
 use Rattle.sheet.specs.Head.{limits}
@@ -20,8 +20,8 @@ use Rattle.acceptance.proofs.accept.Tie as tie
 use Rattle.acceptance.proofs.accept.Reads as reads
 use Rattle.acceptance.proofs.accept.Lts as lts
 use Rattle.acceptance.proofs.accept_directives.Reads as accept-directives-reads
-use Rattle.initialization_rows.proofs.accept.Reads as accept-reads
-use Rattle.platform_rows.proofs.accept.Reads as accept-reads′
+use Rattle.initialization_accept.proofs.accept.Reads as accept-reads
+use Rattle.platform_accept.proofs.accept.Reads as accept-reads′
 use Rattle.sheet.proofs.Cursor.new.Reads as new-reads
 
 -- the bounds of the sheet

@@ -9,7 +9,7 @@ use Rattle.acceptance.proofs.accept_directives.Statement.{statement}
 use Rattle.acceptance.proofs.accept_directives.Tie as tie
 use Rattle.acceptance.proofs.accept_directives.Reads as reads
 use Rattle.acceptance.proofs.accept_directives.Lts as lts
-use Rattle.directive_rows.proofs.accept.Reads as accept-reads
+use Rattle.directive_accept.proofs.accept.Reads as accept-reads
 use Rattle.contexts.proofs.any_lacks.Reads as any-lacks-reads
 
 -- src/lib.rt:47:9

@@ -3,11 +3,11 @@ use borrow.Author.Needs.{needs}
 use borrow.Author.Tests.{ne-eqb}
 use denote.Ref.{now}
 use Rattle.sheet.proofs.Readable.{body-least}
-use Rattle.headers.specs.Headers.{sheetHeaders}
+use Rattle.sheet_headers.specs.Headers.{sheetHeaders}
 use Rattle.directive_header.specs.Fields.{areaOf}
 use Rattle.rows.specs.Rows.{before}
-use Rattle.directives.specs.Record.{howOf, areaNumber}
-use Rattle.directives.proofs.DirectiveRecordLaws.{bad-area-says}
+use Rattle.directive_check.specs.Record.{howOf, areaNumber}
+use Rattle.directive_check.proofs.DirectiveRecordLaws.{bad-area-says}
 use Rattle.directive_pass.proofs.DirectivePass.{at-directive, row-how, row-area}
 use Rattle.directive_pass.proofs.bad_area.Statement.{statement}
 use Rattle.directive_pass.proofs.bad_area.Tie as tie

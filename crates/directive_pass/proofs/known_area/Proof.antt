@@ -8,7 +8,7 @@ use Rattle.rows.specs.Rows.{any, before}
 use Rattle.sheet.specs.Head.{headOf}
 use Rattle.sheet.specs.Walk.{cursorAt}
 use Rattle.sheet.proofs.Readable.{body-least}
-use Rattle.headers.specs.Headers.{sheetHeaders}
+use Rattle.sheet_headers.specs.Headers.{sheetHeaders}
 use Rattle.rules.specs.Directives.{allocates, inserts}
 use Rattle.directive_pass.specs.Passed.{firstDirective}
 use Rattle.directive_pass.proofs.DirectivePass.{AtDirective, at-directive, cursor-first, cursor-more, row-how, row-area, allocated-more, inserted-more}

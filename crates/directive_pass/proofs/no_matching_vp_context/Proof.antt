@@ -5,8 +5,8 @@ use native.Mathlib.Omega.{arith}
 use borrow.Author.Needs.{needs}
 use Rattle.rows.specs.Below.{anyBelow}
 use Rattle.rows.proofs.BelowLaws.{any-more}
-use Rattle.initializations.specs.Record.{entry}
-use Rattle.directives.specs.Record.{lacksContext}
+use Rattle.initialization_check.specs.Record.{entry}
+use Rattle.directive_check.specs.Record.{lacksContext}
 use Rattle.directive_pass.proofs.no_matching_vp_context.Statement.{statement}
 use Rattle.directive_pass.proofs.no_matching_vp_context.Tie as tie
 

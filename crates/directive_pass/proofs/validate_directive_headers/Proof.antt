@@ -6,9 +6,9 @@ use denote.Ref.{now}
 use Rattle.sheet.specs.declared.SheetHead.{SheetHead}
 use Rattle.sheet.specs.Head.{headOf}
 use Rattle.sheet.specs.Walk.{cursorAt}
-use Rattle.headers.specs.Headers.{sheetHeaders}
-use Rattle.headers.proofs.HeaderLaws.{sheet-counts}
-use Rattle.directives.specs.Record.{DirectiveStepped}
+use Rattle.sheet_headers.specs.Headers.{sheetHeaders}
+use Rattle.sheet_headers.proofs.HeaderLaws.{sheet-counts}
+use Rattle.directive_check.specs.Record.{DirectiveStepped}
 use Rattle.directive_pass.specs.Passed.{firstDirective}
 use Rattle.directive_pass.proofs.DirectivePass.{Reached, reached-bounds, regions-room, holds-tables, reached-row, reached-list, reached-header, reached-next, reached-stop, reached-end}
 use Rattle.directive_pass.proofs.validate_directive_headers.Statement.{statement}

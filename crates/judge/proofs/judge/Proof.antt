@@ -1,6 +1,6 @@
 use lib.ListN.{length}
 use Rattle.validation.proofs.VerdictLaws.{sheet-none, verdict-none}
-use Rattle.headers.proofs.HeaderLaws.{sheet-counts}
+use Rattle.sheet_headers.proofs.HeaderLaws.{sheet-counts}
 use Rattle.sheet.specs.Head.{rowCount, revisionOf}
 use Rattle.igvm_defs.specs.Revision.{isX64, archOf}
 use Rattle.sheet.specs.Head.{limits, pageSizeFault}

@@ -7,8 +7,8 @@ use mir.Val.{boolByte}
 use borrow.Author.Needs.{needs}
 use denote.Ref.{now}
 use Rattle.sheet.specs.declared.SheetHead.{SheetHead}
-use Rattle.initializations.specs.Record.{regionsIn}
-use Rattle.initializations.proofs.RecordLaws.{Room}
+use Rattle.initialization_check.specs.Record.{regionsIn}
+use Rattle.initialization_check.proofs.RecordLaws.{Room}
 use Rattle.keep.proofs.KeepLaws.{Reached, reached-none, row-known, row-room, reached-next, reached-end}
 use Rattle.keep.proofs.keep_regions.Statement.{statement}
 use Rattle.keep.proofs.keep_regions.Tie as tie

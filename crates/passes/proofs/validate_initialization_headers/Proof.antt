@@ -6,10 +6,10 @@ use native.Mathlib.Omega.{arith}
 use borrow.Author.Needs.{needs}
 use denote.Ref.{now}
 use Rattle.igvm_defs.specs.Refusals.{isFault}
-use Rattle.headers.specs.Headers.{sheetHeaders}
-use Rattle.initializations.specs.Record.{InitializationStepped}
-use Rattle.initializations.proofs.RecordLaws.{holds-none}
-use Rattle.headers.proofs.HeaderLaws.{sheet-counts}
+use Rattle.sheet_headers.specs.Headers.{sheetHeaders}
+use Rattle.initialization_check.specs.Record.{InitializationStepped}
+use Rattle.initialization_check.proofs.RecordLaws.{holds-none}
+use Rattle.sheet_headers.proofs.HeaderLaws.{sheet-counts}
 use Rattle.passes.proofs.FirstPasses.{InitializationsReached, rows-first, initialization-known, initialization-small, initialization-room, initialization-stepped, initialization-next, initializations-stop, initializations-end}
 use Rattle.passes.proofs.validate_initialization_headers.Statement.{statement}
 use Rattle.passes.proofs.validate_initialization_headers.Tie as tie

@@ -5,10 +5,10 @@ use native.Mathlib.Omega.{arith}
 use borrow.Author.Needs.{needs}
 use denote.Ref.{now}
 use Rattle.igvm_defs.specs.Refusals.{isFault}
-use Rattle.headers.specs.Headers.{sheetHeaders}
-use Rattle.platforms.specs.Record.{PlatformStepped}
+use Rattle.sheet_headers.specs.Headers.{sheetHeaders}
+use Rattle.platform_check.specs.Record.{PlatformStepped}
 use Rattle.sheet.proofs.Readable.{offset-first, readable-bounds}
-use Rattle.headers.proofs.HeaderLaws.{sheet-counts}
+use Rattle.sheet_headers.proofs.HeaderLaws.{sheet-counts}
 use Rattle.passes.proofs.FirstPasses.{PlatformsReached, rows-first, platform-known, platform-room, platform-stepped, platform-next, platforms-stop, platforms-end}
 use Rattle.passes.proofs.validate_platform_headers.Statement.{statement}
 use Rattle.passes.proofs.validate_platform_headers.Tie as tie

@@ -6,9 +6,9 @@ use denote.Ref.{now}
 use Rattle.rows.specs.Below.{anyBelow}
 use Rattle.sheet.specs.declared.SheetHead.{SheetHead}
 use Rattle.sheet.specs.declared.Cursor.{Cursor}
-use Rattle.headers.specs.Headers.{sheetHeaders}
-use Rattle.directives.proofs.DirectiveRecordLaws.{holds-no-contexts}
-use Rattle.directive_rows.specs.Accepted.{firstDirective}
+use Rattle.sheet_headers.specs.Headers.{sheetHeaders}
+use Rattle.directive_check.proofs.DirectiveRecordLaws.{holds-no-contexts}
+use Rattle.directive_accept.specs.Accepted.{firstDirective}
 use Rattle.validation.proofs.start_of.Statement.{statement}
 use Rattle.validation.proofs.start_of.Tie as tie
 

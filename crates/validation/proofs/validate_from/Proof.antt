@@ -18,7 +18,7 @@ use Rattle.validation.proofs.validate_headers.Reads as validate-headers
 use Rattle.igvm_defs.proofs.Fault.in_row.Reads as in-row-reads
 use Rattle.igvm_defs.proofs.Refusal.is_refusal.Reads as is-refusal-reads
 use Rattle.sheet.proofs.SheetHead.page_size_fault.Reads as page-size-fault-reads
-use Rattle.reading.proofs.read_from.Reads as read-from-reads
+use Rattle.sheet_rows.proofs.read_from.Reads as read-from-reads
 
 rows-passed : (c : tie.Else1) → isRefusal (rowsRefusal (now (c .before .before .before .before .args .s))) ≡ false
 rows-passed c = rw (← c .before .before .read-from .ensures, ← c .before .is-refusal .ensures) (c .if1 .left)

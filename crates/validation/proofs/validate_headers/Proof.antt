@@ -1,7 +1,7 @@
 use Rattle.validation.proofs.VerdictLaws.{headers-platforms, headers-initializations, headers-directives}
 use Rattle.sheet.proofs.Readable.{sheet-says}
 use Rattle.rules.specs.Verdict.{platformsRefusal, initializationsRefusal}
-use Rattle.headers.specs.Headers.{sheetHeaders}
+use Rattle.sheet_headers.specs.Headers.{sheetHeaders}
 use Rattle.sheet.specs.Read.{Readable}
 use Rattle.sheet.specs.Head.{limits}
 use Rattle.igvm_defs.specs.Refusals.{isRefusal}

@@ -1,0 +1,143 @@
+-- Rows in order that name an area, and the rows with a table of areas.
+-- Assumes nothing.
+use Prim.Native.Nat.{ℕ, _+_, _-_, _≤_, _<_}
+use native.Mathlib.Omega.{arith}
+use mathlib.Core.Path.{_≡_, refl, sym, _∙_}
+use mathlib.Core.Bool.{true, false, or-false}
+use mathlib.Core.List.{List, [], _∷_}
+use lib.ListN.{length, getD, take, drop, replicate}
+use Rattle.rows.specs.Below.{anyBelow}
+use Rattle.rows.specs.Rows.{Rows, before}
+use Rattle.masks.specs.Masks.{shares}
+use Rattle.directive_header.specs.declared.IgvmDirectiveHeader.{IgvmDirectiveHeader}
+use Rattle.directive_header.specs.Directives.{directiveOf}
+use Rattle.directive_header.specs.Fields.{isParameter}
+use Rattle.rules.specs.Directives.{isContext}
+use Rattle.area_table.specs.AreaTable.{HoldsAreas}
+use Rattle.area_table.proofs.AreaTableLaws.{holds-same, holds-none}
+use Rattle.sheet.specs.declared.Cursor.{Cursor}
+use Rattle.sheet.specs.Head.{headOf, rowCount}
+use Rattle.sheet.specs.Table.{rowKind, rowLength, bodyOf}
+use Rattle.sheet.specs.Walk.{ReadTo}
+use Rattle.directive_check.proofs.DirectiveRecordLaws.{holds-no-contexts}
+use Rattle.sheet_headers.specs.Headers.{sheetHeaders}
+use Rattle.directive_accept.specs.Accepted.{firstDirective, DirectivesAccepted, NamedAccepted, PlainAccepted, PlainPassed, AreasPassed, Onward, stateBefore}
+use Rattle.directive_row.specs.Row.{AreaRow, NamedRow, ContextsNext, stateOf}
+use Rattle.directive_accept.proofs.AcceptedLaws.{part-body, read-row, accepted-more, state-more}
+use Rattle.directive_row.proofs.AreaRowLaws.{parameter-table, parameter-context, parameter-state}
+
+-- a header that is no context leaves the masks as they are
+pub contexts-stay : (contexts : List ℕ) (h : IgvmDirectiveHeader) → ((level bits : ℕ) → isContext level bits h ≡ false) → ContextsNext contexts h contexts
+contexts-stay contexts h other level bits = rw (other level bits) (sym (or-false (shares (getD contexts level 0) bits)))
+
+-- ---- the rows
+
+module _ (s : List ℕ) (few links areas states : List ℕ) where
+  -- a parameter in order
+  pub onward-parameter : (c d : Cursor) → HoldsAreas few links areas states (stateBefore s (c .row)) → Onward s c d → (len : ℕ) → len ≡ rowLength s (d .row)
+      → d .at + len ≤ length s → d .row < rowCount (headOf s) → (kind : ℕ) → kind ≡ rowKind s (d .row) → isParameter kind ≡ true → (body : List ℕ)
+      → body ≡ take len (drop (d .at) s)
+      → ((earlier : Rows IgvmDirectiveHeader) → HoldsAreas few links areas states (stateOf earlier) → AreaRow (sheetHeaders s .arch) earlier kind body few links areas states)
+      → Onward s c (record { row = d .row + 1; at = d .at + len })
+  onward-parameter c d h o len e room l kind k p body part row =
+      let earlier = before (d .row - firstDirective s) (sheetHeaders s .directives) in
+      let q : body ≡ bodyOf s (d .row) = part ∙ part-body s d (o .read) len e in
+      let a : AreaRow (sheetHeaders s .arch) earlier (rowKind s (d .row)) (bodyOf s (d .row)) few links areas states =
+      rw (k, q) at (row earlier (holds-same h (λ x. sym (o .areas x))))
+      in
+      let param : isParameter (rowKind s (d .row)) ≡ true = rw k at p in
+      let low = o .low in
+      let first = o .first in
+      let fits : d .at + rowLength s (d .row) ≤ length s = rw e at room in
+      rw e
+      (record {
+        low = omega arith;
+        first = omega arith;
+        read = read-row s d (o .read) fits first l (sheetHeaders s .arch) (a .sound);
+        accepted =
+            λ contexts b.
+            accepted-more s d (o .read) fits contexts contexts (o .accepted contexts b) l (a .sound) (a .area)
+            (parameter-table (rowKind s (d .row)) param (bodyOf s (d .row)) (sheetHeaders s .initializations))
+            (contexts-stay contexts (directiveOf (rowKind s (d .row)) (bodyOf s (d .row))) (parameter-context (rowKind s (d .row)) param (bodyOf s (d .row))));
+        areas = λ x. state-more s (d .row) first x ∙ parameter-state (rowKind s (d .row)) param (bodyOf s (d .row)) earlier x ∙ o .areas x;
+      })
+
+-- ---- rows that name an area
+
+pub areas-none : (s : List ℕ) (c : Cursor) (few links areas states : List ℕ) → ReadTo s c → firstDirective s ≤ c .row → HoldsAreas few links areas states (stateBefore s (c .row))
+    → AreasPassed s c c few links areas states
+areas-none s c few links areas states r d h = record { low = omega arith; first = d; read = r; accepted = λ contexts a. a; known = h }
+
+-- the table may change, as long as it has the same
+pub areas-kept : (s : List ℕ) (c d : Cursor) (few links areas states fewNext linksNext areasNext statesNext : List ℕ) → AreasPassed s c d few links areas states
+    → HoldsAreas fewNext linksNext areasNext statesNext (stateBefore s (d .row)) → AreasPassed s c d fewNext linksNext areasNext statesNext
+areas-kept s c d few links areas states fewNext linksNext areasNext statesNext a h = record { low = a .low; first = a .first; read = a .read; accepted = a .accepted; known = h }
+
+-- a row in order
+pub areas-next : (s : List ℕ) (c d : Cursor) (few links areas states fewNext linksNext areasNext statesNext : List ℕ) → AreasPassed s c d few links areas states → (len : ℕ)
+    → len ≡ rowLength s (d .row) → d .at + len ≤ length s → d .row < rowCount (headOf s) → (kind : ℕ) → kind ≡ rowKind s (d .row) → (body : List ℕ)
+    → body ≡ take len (drop (d .at) s)
+    → NamedRow (sheetHeaders s .arch) (sheetHeaders s .initializations) (before (d .row - firstDirective s) (sheetHeaders s .directives)) kind body fewNext linksNext areasNext statesNext
+    → AreasPassed s c (record { row = d .row + 1; at = d .at + len }) fewNext linksNext areasNext statesNext
+areas-next s c d few links areas states fewNext linksNext areasNext statesNext a len e room l kind k body part row =
+    let q : body ≡ bodyOf s (d .row) = part ∙ part-body s d (a .read) len e in
+    let r : NamedRow (sheetHeaders s .arch) (sheetHeaders s .initializations) (before (d .row - firstDirective s) (sheetHeaders s .directives)) (rowKind s (d .row)) (bodyOf s (d .row)) fewNext linksNext areasNext statesNext =
+    rw (k, q) at row
+    in
+    let low = a .low in
+    let first = a .first in
+    let fits : d .at + rowLength s (d .row) ≤ length s = rw e at room in
+    rw e
+    (record {
+      low = omega arith;
+      first = omega arith;
+      read = read-row s d (a .read) fits first l (sheetHeaders s .arch) (r .row .sound);
+      accepted =
+          λ contexts b.
+          accepted-more s d (a .read) fits contexts contexts (a .accepted contexts b) l (r .row .sound) (r .row .area) (r .table)
+          (contexts-stay contexts (directiveOf (rowKind s (d .row)) (bodyOf s (d .row))) (r .other));
+      known = holds-same (r .row .known) (λ x. sym (state-more s (d .row) first x));
+    })
+
+pub areas-onward : (s : List ℕ) (from c d : Cursor) (few links areas states : List ℕ) → AreasPassed s from c few links areas states → Onward s c d
+    → AreasPassed s from d few links areas states
+areas-onward s from c d few links areas states a o =
+    let low = a .low in
+    let more = o .low in
+    record {
+      low = omega arith;
+      first = o .first;
+      read = o .read;
+      accepted = λ contexts b. o .accepted contexts (a .accepted contexts b);
+      known = holds-same (a .known) (λ x. sym (o .areas x));
+    }
+
+-- rows that name an area, and rows behind them that name none
+pub named-turn : (s : List ℕ) (c d e : Cursor) (next few links areas states : List ℕ) → AreasPassed s c d few links areas states
+    → PlainPassed s d e next → NamedAccepted s e next few links areas states
+named-turn s c d e next few links areas states a p =
+    record { rows = p .rows; known = holds-same (a .known) (λ x. sym (p .areas x)); masks = p .masks }
+
+-- ---- where the pass begins
+
+pub named-first : (s : List ℕ) (c : Cursor) (contexts : List ℕ) → PlainAccepted s c contexts
+    → NamedAccepted s c contexts (replicate 1024 0) (replicate 3074 0) (replicate 1025 0) (replicate 1025 0)
+named-first s c contexts a = record { rows = a .rows; known = holds-same holds-none (λ x. sym (a .areas x)); masks = a .masks }
+
+module _ (s : List ℕ) (c : Cursor) (e : c .row ≡ firstDirective s) where
+  none-before : c .row - firstDirective s ≡ 0
+  none-before = omega arith
+
+  pub rows-first : (contexts : List ℕ) → ReadTo s c → contexts ≡ (0 ∷ 0 ∷ 0 ∷ []) → DirectivesAccepted s c contexts × (length contexts ≡ 3)
+  unfolding anyBelow
+  rows-first contexts r z =
+      rw z
+      (record { read = r; low = omega arith; good = rw none-before; holds = rw none-before (holds-no-contexts (sheetHeaders s .directives)) }, refl)
+
+  -- no row before the first names an area
+  state-first : (area : ℕ) → stateBefore s (c .row) area ≡ 0
+  unfolding anyBelow stateOf
+  state-first area = rw none-before
+
+  pub plain-first : (d : Cursor) (contexts : List ℕ) → PlainPassed s c d contexts → PlainAccepted s d contexts
+  plain-first d contexts p = record { rows = p .rows; areas = λ area. p .areas area ∙ state-first area; masks = p .masks }

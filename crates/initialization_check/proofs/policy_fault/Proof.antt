@@ -1,0 +1,41 @@
+use mathlib.Core.Path.{sym}
+use mathlib.Core.List.{[], _∷_}
+use Rattle.initialization_header.proofs.InitializationLaws.{not-kind}
+use Rattle.initialization_check.specs.Record.{policyFault}
+use Rattle.initialization_check.proofs.FaultLaws.{no-policy, holds-bit}
+use borrow.Author.Needs.{needs}
+use Rattle.initialization_check.proofs.policy_fault.Statement.{statement}
+use Rattle.initialization_check.proofs.policy_fault.Tie as tie
+
+enum-known-h : tie.Need-enum-known-h
+enum-known-h c = search needs
+
+is-aarch64-requires : tie.Need-is-aarch64-requires
+is-aarch64-requires c κs = search needs
+
+without-cca-requires : tie.Need-without-cca-requires
+without-cca-requires c κs = search needs
+
+refuse-requires : tie.Need-refuse-requires
+refuse-requires c κs = search needs
+
+returns : tie.Need-returns
+unfolding policyFault
+returns c ps held =
+    let g = c .before .before .before .before .h .given in
+    let a = c .before .before .before .before .before .before .args in
+    rw (g .1, ← holds-bit (a .platforms) ps (g .0 .0) held) (cc)
+
+returns-2 : tie.Need-returns-2
+returns-2 c ps held = let a = c .before .args in sym (no-policy (a .arch) ps (a .h) (not-kind (0 ∷ 2 ∷ 3 ∷ []) (a .h) 1 tt (c .match .keys2)))
+
+pub policy-fault-spec : {M : Type 1} → statement M
+policy-fault-spec =
+    tie.close
+    (tie.spec
+    enum-known-h
+    is-aarch64-requires
+    without-cca-requires
+    refuse-requires
+    returns
+    returns-2)

@@ -1,0 +1,261 @@
+-- Laws of lent bytes. A store past the end changes nothing, so only laws that read a byte ask for room.
+-- Assumes nothing.
+use Prim.Native.Nat.{ℕ, zero, suc, _+_, _-_, _*_, _/_, _%_, _^_, _≤_, _<_}
+use native.Mathlib.Nat.{add-zero, zero-add, not-suc-le-zero, le-of-suc-le-suc, pow-succ', mul-comm, mod-eq-of-lt}
+use native.Mathlib.Decide.{decLt}
+use native.Mathlib.Omega.{arith}
+use mathlib.Core.Path.{_≡_, refl, sym, ap, _∙_}
+use mathlib.Core.Bool.{Bool, true, cond, _&&_, and-false}
+use mathlib.Core.List.{List, [], _∷_}
+use lib.Arith.{mod-mul}
+use lib.Dec.{eqb, leb, ltb}
+use lib.ListN.{length, getD, set, List·getD-eq-default}
+use borrow.Author.Tests.{eqb-true, leb-true, ltb-true, eq-eqb, ne-eqb, le-leb, lt-leb, lt-ltb, le-ltb}
+use Rattle.rows.specs.Below.{sumBelow}
+use Rattle.rows.proofs.Bools.{same-test, and-parts, cond-same}
+use Rattle.rows.proofs.BelowLaws.{sum-cong}
+use Rattle.le.specs.Le.{byteAt, leAt, byteOf}
+use Rattle.lent.specs.Lent.{eachFrom, each, bytesPut, wordPut, rowPut, rowsPut}
+
+-- ---- each, from place i on
+
+from-length : (i : ℕ) (f : ℕ → ℕ → ℕ) (b : List ℕ) → length (eachFrom i f b) ≡ length b
+unfolding eachFrom
+from-length i f [] = refl
+from-length i f (x ∷ b) = ap suc (from-length (suc i) f b)
+
+from-same : (i : ℕ) (f g : ℕ → ℕ → ℕ) (b : List ℕ) → ((j x : ℕ) → i ≤ j → f j x ≡ g j x) → eachFrom i f b ≡ eachFrom i g b
+unfolding eachFrom
+from-same i f g [] h = refl
+from-same i f g (x ∷ b) h = rw (h i x (omega arith), from-same (suc i) f g b (λ j y l. h j y (omega arith)))
+
+from-keeps : (i : ℕ) (f : ℕ → ℕ → ℕ) (b : List ℕ) → ((j x : ℕ) → i ≤ j → f j x ≡ x) → eachFrom i f b ≡ b
+unfolding eachFrom
+from-keeps i f [] h = refl
+from-keeps i f (x ∷ b) h = rw (h i x (omega arith), from-keeps (suc i) f b (λ j y l. h j y (omega arith)))
+
+from-each : (i : ℕ) (f g : ℕ → ℕ → ℕ) (b : List ℕ) → eachFrom i g (eachFrom i f b) ≡ eachFrom i (λ j x. g j (f j x)) b
+unfolding eachFrom
+from-each i f g [] = refl
+from-each i f g (x ∷ b) = rw (from-each (suc i) f g b)
+
+from-set : (i k v : ℕ) (b : List ℕ) → set b k v ≡ eachFrom i (λ j x. cond (eqb j (i + k)) v x) b
+unfolding eachFrom
+from-set i k v [] = refl
+from-set i zero v (x ∷ b) =
+    rw (eq-eqb i (i + 0) (omega arith), from-keeps (suc i) (λ j y. cond (eqb j (i + 0)) v y) b (λ j y l. rw (ne-eqb j (i + 0) (λ q. omega arith))))
+from-set i (suc k) v (x ∷ b) =
+    let z : i + suc k ≡ suc i + k = omega arith in
+    rw (ne-eqb i (i + suc k) (λ q. omega arith), from-set (suc i) k v b, z)
+
+from-at : (i : ℕ) (f : ℕ → ℕ → ℕ) (b : List ℕ) (j : ℕ) → j < length b → getD (eachFrom i f b) j 0 ≡ f (i + j) (getD b j 0)
+unfolding eachFrom
+from-at i f [] j l = absurd (not-suc-le-zero l)
+from-at i f (x ∷ b) zero l = rw (add-zero i)
+from-at i f (x ∷ b) (suc j) l = let z : suc i + j ≡ i + suc j = omega arith in rw (← z) (from-at (suc i) f b j (le-of-suc-le-suc l))
+
+-- ---- each
+
+pub each-length : (f : ℕ → ℕ → ℕ) (b : List ℕ) → length (each f b) ≡ length b
+each-length f b = from-length 0 f b
+
+pub each-same : (f g : ℕ → ℕ → ℕ) (b : List ℕ) → ((j x : ℕ) → f j x ≡ g j x) → each f b ≡ each g b
+each-same f g b h = from-same 0 f g b (λ j x l. h j x)
+
+pub each-keeps : (f : ℕ → ℕ → ℕ) (b : List ℕ) → ((j x : ℕ) → f j x ≡ x) → each f b ≡ b
+each-keeps f b h = from-keeps 0 f b (λ j x l. h j x)
+
+pub each-each : (f g : ℕ → ℕ → ℕ) (b : List ℕ) → each g (each f b) ≡ each (λ j x. g j (f j x)) b
+each-each f g b = from-each 0 f g b
+
+-- a store, past the end too
+pub each-set : (k v : ℕ) (b : List ℕ) → set b k v ≡ each (λ j x. cond (eqb j k) v x) b
+each-set k v b = rw zero-add at (from-set 0 k v b)
+
+pub each-at : (f : ℕ → ℕ → ℕ) (b : List ℕ) (j : ℕ) → j < length b → getD (each f b) j 0 ≡ f j (getD b j 0)
+each-at f b j l = rw zero-add at (from-at 0 f b j l)
+
+-- ---- bytes put at the places from a up to e
+
+in-range : (a e j : ℕ) → a ≤ j → j < e → (leb a j && ltb j e) ≡ true
+in-range a e j l h = rw (le-leb a j l, lt-ltb j e h)
+
+range-in : (a e j : ℕ) → (leb a j && ltb j e) ≡ true → (a ≤ j) × (j < e)
+range-in a e j h = let (p, q) = and-parts (leb a j) (ltb j e) h in (leb-true a j p, ltb-true j e q)
+
+pub put-length : (a e : ℕ) (f : ℕ → ℕ) (b : List ℕ) → length (bytesPut a e f b) ≡ length b
+unfolding bytesPut
+put-length a e f b = each-length _ b
+
+pub put-same : (a e : ℕ) (f g : ℕ → ℕ) (b : List ℕ) → ((j : ℕ) → a ≤ j → j < e → f j ≡ g j) → bytesPut a e f b ≡ bytesPut a e g b
+unfolding bytesPut
+put-same a e f g b h =
+    each-same _ _ b (λ j x. cond-same (leb a j && ltb j e) (f j) (g j) x x (λ t. let (l, k) = range-in a e j t in h j l k) (λ t. refl))
+
+pub put-none : (a : ℕ) (f : ℕ → ℕ) (b : List ℕ) → bytesPut a a f b ≡ b
+unfolding bytesPut
+put-none a f b = each-keeps _ b (λ j x. go j x (decLt j a))
+  where
+    go : (j x : ℕ) → Dec (j < a) → cond (leb a j && ltb j a) (f j) x ≡ x
+    go j x (yes l) = rw (lt-leb a j l)
+    go j x (no l) = rw (le-ltb j a (omega arith), and-false (leb a j))
+
+-- bytes put behind those that were put
+pub put-join : (a s e : ℕ) (f g : ℕ → ℕ) (b : List ℕ) → a ≤ s → s ≤ e → ((j : ℕ) → s ≤ j → j < e → g j ≡ f j)
+    → bytesPut s e g (bytesPut a s f b) ≡ bytesPut a e f b
+unfolding bytesPut
+put-join a s e f g b l k h = each-each _ _ b ∙ each-same _ _ b (λ j x. go j x (decLt j s))
+  where
+    go : (j x : ℕ) → Dec (j < s) → cond (leb s j && ltb j e) (g j) (cond (leb a j && ltb j s) (f j) x) ≡ cond (leb a j && ltb j e) (f j) x
+    go j x (yes m) = rw (lt-leb s j m, lt-ltb j s m, lt-ltb j e (omega arith))
+    go j x (no m) =
+        rw (le-leb s j (omega arith), le-ltb j s (omega arith), le-leb a j (omega arith))
+        (cond-same (ltb j e) (g j) (f j) x x (λ t. h j (omega arith) (ltb-true j e t)) (λ t. refl))
+
+pub put-set : (k v : ℕ) (b : List ℕ) → set b k v ≡ bytesPut k (k + 1) (λ _. v) b
+unfolding bytesPut
+put-set k v b = each-set k v b ∙ each-same _ _ b (λ j x. ap (λ (t : Bool). cond t v x) (one j))
+  where
+    one : (j : ℕ) → eqb j k ≡ (leb k j && ltb j (k + 1))
+    one j =
+        same-test (eqb j k) (leb k j && ltb j (k + 1))
+        (λ t. let e = eqb-true j k t in in-range k (k + 1) j (omega arith) (omega arith))
+        (λ t. let (p, q) = range-in k (k + 1) j t in eq-eqb j k (omega arith))
+
+pub put-at : (a e : ℕ) (f : ℕ → ℕ) (b : List ℕ) (j : ℕ) → a ≤ j → j < e → j < length b → getD (bytesPut a e f b) j 0 ≡ f j
+unfolding bytesPut
+put-at a e f b j l k h = each-at _ b j h ∙ rw (in-range a e j l k)
+
+-- ---- a word
+
+-- the stores of `put_word`, up to byte k
+abbrev pub stores : ℕ → List ℕ → ℕ → ℕ → List ℕ
+stores zero b at v = set b at (v % 256)
+stores (suc k) b at v = set (stores k b at v) (at + suc k) (v / 256 ^ suc k % 256)
+
+stored : (k at v : ℕ) (b : List ℕ) → stores k b at v ≡ bytesPut at (at + suc k) (λ j. byteOf (j - at) v) b
+unfolding byteOf
+stored zero at v b =
+    put-set at (v % 256) b
+    ∙ put-same at (at + 1) _ _ b (λ j l h. let z : j - at ≡ 0 = omega arith in rw z (omega arith))
+stored (suc k) at v b =
+    let z : at + suc (suc k) ≡ at + suc k + 1 = omega arith in
+    rw (stored k at v b, z)
+    (put-set (at + suc k) (v / 256 ^ suc k % 256) _
+    ∙ put-join at (at + suc k) (at + suc k + 1) _ _ b (omega arith) (omega arith) (λ j l h. let y : j - at ≡ suc k = omega arith in rw y))
+
+pub put-word : (w v : ℕ) (b : List ℕ) → stores 7 b (8 * w) v ≡ wordPut w v b
+unfolding wordPut
+put-word w v b = stored 7 (8 * w) v b
+
+pub word-length : (w v : ℕ) (b : List ℕ) → length (wordPut w v b) ≡ length b
+unfolding wordPut
+word-length w v b = put-length _ _ _ b
+
+-- ---- a row
+
+-- byte j of a row of eight words
+unfoldable pub rowByte : List ℕ → ℕ → ℕ
+rowByte words j = byteOf (j % 8) (getD words (j / 8 % 8) 0)
+
+-- the bytes with the first k words of row n
+unfoldable pub wordsPut : ℕ → ℕ → List ℕ → List ℕ → List ℕ
+wordsPut k n words b = bytesPut (64 * n) (64 * n + 8 * k) (rowByte words) b
+
+pub words-none : (n : ℕ) (words b : List ℕ) → wordsPut 0 n words b ≡ b
+unfolding wordsPut
+words-none n words b = let z : 64 * n + 8 * 0 ≡ 64 * n = omega arith in rw z (put-none (64 * n) (rowByte words) b)
+
+-- one word more: a turn of the loop of `put_words`
+pub words-more : (k n : ℕ) (words b : List ℕ) → k < 8 → wordPut (8 * n + k) (getD words k 0) (wordsPut k n words b) ≡ wordsPut (k + 1) n words b
+unfolding wordPut wordsPut rowByte
+words-more k n words b l =
+    let w : ℕ = 8 * n + k in
+    let y : 64 * n + 8 * k ≡ 8 * w = omega arith in
+    let z : 64 * n + 8 * (k + 1) ≡ 8 * w + 8 = omega arith in
+    rw (y, z)
+    (put-join (64 * n) (8 * w) (8 * w + 8) (rowByte words) (λ j. byteOf (j - 8 * w) (getD words k 0)) b (omega arith) (omega arith)
+    (λ j h g.
+    let p : j - 8 * w ≡ j % 8 = omega arith in
+    let q : k ≡ j / 8 % 8 = omega arith in
+    rw (p, q)))
+
+pub words-all : (n : ℕ) (words b : List ℕ) → wordsPut 8 n words b ≡ rowPut n words b
+unfolding wordsPut rowPut rowByte
+words-all n words b = refl
+
+pub row-length : (n : ℕ) (words b : List ℕ) → length (rowPut n words b) ≡ length b
+unfolding rowPut
+row-length n words b = put-length _ _ _ b
+
+-- ---- rows
+
+-- byte j of the rows' words
+unfoldable rowsByte : (ℕ → List ℕ) → ℕ → ℕ
+rowsByte row j = byteOf (j % 8) (getD (row (j / 64)) (j / 8 % 8) 0)
+
+rows-put : (count : ℕ) (row : ℕ → List ℕ) (b : List ℕ) → rowsPut count row b ≡ bytesPut 0 (64 * count) (rowsByte row) b
+unfolding rowsPut bytesPut rowsByte
+rows-put count row b = each-same _ _ b (λ j x. rw (le-leb 0 j (omega arith)))
+
+pub rows-length : (count : ℕ) (row : ℕ → List ℕ) (b : List ℕ) → length (rowsPut count row b) ≡ length b
+unfolding rowsPut
+rows-length count row b = each-length _ b
+
+pub rows-none : (row : ℕ → List ℕ) (b : List ℕ) → rowsPut 0 row b ≡ b
+rows-none row b = rows-put 0 row b ∙ put-none 0 (rowsByte row) b
+
+pub rows-more : (n : ℕ) (row : ℕ → List ℕ) (b : List ℕ) → rowsPut (n + 1) row b ≡ rowPut n (row n) (rowsPut n row b)
+unfolding rowPut rowsByte
+rows-more n row b =
+    let z : 64 * (n + 1) ≡ 64 * n + 64 = omega arith in
+    rw (rows-put (n + 1) row b, rows-put n row b, z)
+    (sym (put-join 0 (64 * n) (64 * n + 64) (rowsByte row) (λ j. byteOf (j % 8) (getD (row n) (j / 8 % 8) 0)) b (omega arith) (omega arith)
+    (λ j h g. let p : n ≡ j / 64 = omega arith in rw p)))
+
+-- ---- words read back
+
+power-pos : (w : ℕ) → 0 < 256 ^ w
+power-pos zero = omega arith
+power-pos (suc w) = let h = power-pos w in rw (pow-succ' 256 w) (omega arith)
+
+-- the bytes of a number say it
+pub bytes-say : (w v : ℕ) → sumBelow w (λ k. 256 ^ k * byteOf k v) ≡ v % 256 ^ w
+unfolding sumBelow byteOf
+bytes-say zero v = omega arith
+bytes-say (suc w) v =
+    rw (bytes-say w v, pow-succ', mod-mul v {m = 256} {c = 256 ^ w} (omega arith) (power-pos w), mul-comm (256 ^ w) (v / 256 ^ w % 256)) (omega arith)
+
+module _ (count : ℕ) (row : ℕ → List ℕ) (b : List ℕ) (room : 64 * count ≤ length b) where
+  byte-is : (n k m : ℕ) → n < count → k < 8 → m < 8 → byteAt (rowsPut count row b) (64 * n + 8 * k + m) ≡ byteOf m (getD (row n) k 0)
+  unfolding rowsByte
+  byte-is n k m l h g =
+      let j : ℕ = 64 * n + 8 * k + m in
+      let x : j / 64 ≡ n = omega arith in
+      let y : j / 8 % 8 ≡ k = omega arith in
+      let z : j % 8 ≡ m = omega arith in
+      rw (rows-put count row b, put-at 0 (64 * count) (rowsByte row) b j (omega arith) (omega arith) (omega arith), x, y, z)
+
+  word-said : (n k : ℕ) → n < count → k < 8 → leAt 8 (rowsPut count row b) (64 * n + 8 * k) ≡ getD (row n) k 0 % 256 ^ 8
+  unfolding leAt
+  word-said n k l h = sum-cong 8 _ _ (λ m g. ap (λ x. 256 ^ m * x) (byte-is n k m l h g)) ∙ bytes-say 8 (getD (row n) k 0)
+
+  -- word k of row n is item k of the row
+  pub word-is : (n k : ℕ) → n < count → k < 8 → getD (row n) k 0 < 18446744073709551616 → leAt 8 (rowsPut count row b) (64 * n + 8 * k) ≡ getD (row n) k 0
+  word-is n k l h g = word-said n k l h ∙ mod-eq-of-lt g
+
+-- equal rows, under whatever numbers, are the same words
+pub same-words : (count count2 : ℕ) (row row2 : ℕ → List ℕ) (b b2 : List ℕ) → 64 * count ≤ length b → 64 * count2 ≤ length b2
+    → (n n2 k : ℕ) → n < count → n2 < count2 → k < 8 → row n ≡ row2 n2 → leAt 8 (rowsPut count row b) (64 * n + 8 * k) ≡ leAt 8 (rowsPut count2 row2 b2) (64 * n2 + 8 * k)
+same-words count count2 row row2 b b2 r r2 n n2 k l l2 h e =
+    word-said count row b r n k l h ∙ ap (λ (r : List ℕ). getD r k 0 % 256 ^ 8) e ∙ sym (word-said count2 row2 b2 r2 n2 k l2 h)
+
+-- bytes behind the rows keep their contents
+pub rows-keep : (count : ℕ) (row : ℕ → List ℕ) (b : List ℕ) (j : ℕ) → 64 * count ≤ j → getD (rowsPut count row b) j 0 ≡ getD b j 0
+unfolding rowsPut
+rows-keep count row b j l = go (decLt j (length b))
+  where
+    go : Dec (j < length b) → getD (rowsPut count row b) j 0 ≡ getD b j 0
+    go (yes h) = each-at _ b j h ∙ rw (le-ltb j (64 * count) l)
+    go (no h) =
+        rw (List·getD-eq-default (rowsPut count row b) 0 {n = j} (rw (rows-length count row b) (omega arith)), List·getD-eq-default b 0 {n = j} (omega arith))

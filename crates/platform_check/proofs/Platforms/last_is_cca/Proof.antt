@@ -1,0 +1,79 @@
+use mathlib.Core.Path.{_≡_, refl}
+use mathlib.Core.Option.{Option, none, some}
+use Prim.Native.Nat.{ℕ, _-_, _≤_}
+use native.Mathlib.Omega.{arith}
+use borrow.Author.Needs.{needs}
+use lib.Dec.{eqb}
+use lib.ListN.{getD}
+use Rattle.rows.specs.Below.{lastBelow}
+use Rattle.rows.proofs.BelowLaws.{last-more}
+use Rattle.platform_check.specs.declared.Platforms.{Platforms}
+use Rattle.platform_check.specs.Record.{typeIsCca, lastTypeIsCca}
+use Rattle.platform_check.proofs.Platforms.last_is_cca.Statement.{statement}
+use Rattle.platform_check.proofs.Platforms.last_is_cca.Tie as tie
+
+-- the type at an index that was looked for; 255 where there is none
+abbrev typeAt : Platforms → Option ℕ → ℕ
+typeAt r none = 255
+typeAt r (some i) = getD (r .types) i 0
+
+cca-type : (r : Platforms) (o : Option ℕ) → eqb (typeAt r o) 6 ≡ typeIsCca r o
+cca-type r none = refl
+cca-type r (some i) = refl
+
+last-cca : (r : Platforms) (mask type : ℕ) → type ≡ typeAt r (lastBelow (r .count) (λ j. eqb (getD (r .mask) j 0) mask)) → eqb type 6 ≡ lastTypeIsCca r mask
+unfolding lastTypeIsCca
+last-cca r mask type e = rw e (cca-type r (lastBelow (r .count) (λ j. eqb (getD (r .mask) j 0) mask)))
+
+abbrev Inv-loop : tie.InvT-loop
+Inv-loop mask self n i₀ found₀ i found = (i ≤ n) × (found ≡ typeAt self (lastBelow i (λ j. eqb (getD (self .mask) j 0) mask)))
+
+abbrev μ-loop : tie.MeasureT-loop
+μ-loop mask self n i₀ found₀ i found = n - i
+
+loop-holds : tie.Need-loop-holds Inv-loop μ-loop
+unfolding lastBelow
+loop-holds c = (search needs, refl)
+
+mul-type-after : tie.Need-mul-type-after Inv-loop μ-loop
+mul-type-after c = search needs
+
+element-copy-out-type-after : tie.Need-element-copy-out-type-after Inv-loop μ-loop
+element-copy-out-type-after c = search needs
+
+element-copy-out-type-after-2 : tie.Need-element-copy-out-type-after-2 Inv-loop μ-loop
+element-copy-out-type-after-2 c = search needs
+
+type-after-requires : tie.Need-type-after-requires Inv-loop μ-loop
+type-after-requires c κs = search needs
+
+add-i : tie.Need-add-i Inv-loop μ-loop
+add-i c = search needs
+
+loop-less : tie.Need-loop-less Inv-loop μ-loop
+loop-less c = search needs
+
+loop-again : tie.Need-loop-again Inv-loop μ-loop
+loop-again c = (search needs, rw (last-more (typeAt (c .before .before .before .before .before .args .t1))) (cc))
+
+returns : tie.Need-returns Inv-loop μ-loop
+returns c =
+    let a = c .before .before .args in
+    let e : c .before .loop .i ≡ a .t1 .count = omega arith in
+    last-cca (a .t1) (a .mask) (c .before .loop .found) (rw e at (c .before .loop .inv .1))
+
+pub last-is-cca-spec : {M : Type 1} → statement M
+last-is-cca-spec =
+    tie.close
+    (tie.spec
+    Inv-loop
+    μ-loop
+    loop-holds
+    mul-type-after
+    element-copy-out-type-after
+    element-copy-out-type-after-2
+    type-after-requires
+    add-i
+    loop-less
+    loop-again
+    returns)

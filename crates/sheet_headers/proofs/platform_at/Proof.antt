@@ -1,0 +1,34 @@
+use mathlib.Core.Path.{_≡_, _∙_}
+use denote.Ref.{now}
+use borrow.Author.Needs.{needs}
+use Rattle.sheet.specs.Table.{rowKind, bodyOf}
+use Rattle.sheet_reader.proofs.ReaderLaws.{row-at-cursor, body-at-cursor}
+use Rattle.sheet.proofs.Readable.{body-least}
+use Rattle.sheet_headers.proofs.platform_at.Statement.{statement}
+use Rattle.sheet_headers.proofs.platform_at.Tie as tie
+
+-- what the reader reads at the cursor is the row's kind and body
+kind : (c : tie.After-body-of) → let a = c .before .before .before .args in c .before .read-row .result .what .kind ≡ rowKind (now (a .s)) (a .c .row)
+kind c =
+    let st = c .before .before .before in
+    rw (c .before .read-row .ensures, row-at-cursor (now (st .args .s)) (st .args .c) (st .pre .0))
+
+body : (c : tie.After-body-of) → let a = c .before .before .before .args in now (c .body-of .result) ≡ bodyOf (now (a .s)) (a .c .row)
+body c = c .body-of .ensures ∙ body-at-cursor _ _ (c .before .before .before .pre .0)
+
+read-row-requires : tie.Need-read-row-requires
+read-row-requires c κs = search needs
+
+body-of-requires : tie.Need-body-of-requires
+body-of-requires c κs = search needs
+
+decode-requires : tie.Need-decode-requires
+decode-requires c κs =
+    let pre = c .before .before .before .pre in
+    (rw (kind c) (pre .1), rw (kind c, body c) (body-least _ _ (pre .0)))
+
+returns : tie.Need-returns
+returns c = rw (c .decode .ensures, kind (c .before), body (c .before))
+
+pub platform-at-spec : {M : Type 1} → statement M
+platform-at-spec = tie.close (tie.spec read-row-requires body-of-requires decode-requires returns)
