@@ -1,40 +1,19 @@
 -- Where every row was passed, none of the refusals of rows and headers applies.
 -- Assumes nothing.
-use Prim.Native.Nat.{ℕ, _+_, _-_, _≤_, _<_}
-use native.Mathlib.Omega.{arith}
-use mathlib.Core.Path.{_≡_, ap, _∙_}
-use mathlib.Core.Bool.{Bool, false}
-use mathlib.Core.List.{List, [], _∷_}
-use lib.ListN.{length}
-use borrow.Author.Tests.{le-ltb}
-use Rattle.rows.specs.Below.{anyBelow}
-use Rattle.rows.specs.Rows.{Rows}
-use Rattle.rows.proofs.BelowLaws.{none-any}
-use Rattle.igvm_defs.specs.Refusals.{fault, noFault, refuse, isFault, isRefusal}
-use Rattle.igvm_defs.proofs.RefusalLaws.{no-fault, row-refusal}
-use Rattle.sheet.specs.declared.Cursor.{Cursor}
-use Rattle.sheet.specs.Head.{limits, headOf, rowCount, bodiesAt, startFault}
-use Rattle.sheet.specs.Table.{offsetOf}
-use Rattle.sheet.specs.Read.{endFault, rowsRefusal}
-use Rattle.sheet.specs.Walk.{ReadTo}
-use Rattle.sheet.proofs.Readable.{start-says}
-use Rattle.sheet.proofs.ReadLaws.{rows-end}
-use Rattle.sheet_headers.specs.Headers.{sheetHeaders}
-use Rattle.sheet_headers.proofs.HeaderLaws.{sheet-counts}
-use Rattle.initialization_check.specs.declared.RelocRegions.{RelocRegions}
-use Rattle.initialization_check.specs.Record.{anyRegion, regionsIn, HoldsRegions, HoldsRows}
-use Rattle.directive_check.specs.Record.{HoldsContexts, lacksContext}
+use Rattle.rows.{proofs.Kit.{ℕ, _+_, _-_, _≤_, _<_, arith, _≡_, ap, _∙_, Bool, false, List, [], _∷_, length, le-ltb}, specs.Below.anyBelow, specs.Rows.Rows, proofs.BelowLaws.none-any}
+use Rattle.igvm_defs.{specs.Refusals.{fault, noFault, refuse, isFault, isRefusal}, proofs.RefusalLaws.{no-fault, row-refusal}}
+use Rattle.sheet.{specs.declared.Cursor.Cursor, specs.Head.{limits, headOf, rowCount, bodiesAt, startFault}, specs.Table.offsetOf, specs.Read.{endFault, rowsRefusal}, specs.Walk.ReadTo, proofs.Readable.start-says, proofs.ReadLaws.rows-end}
 use Rattle.initialization_header.specs.declared.IgvmInitializationHeader.{IgvmInitializationHeader}
-use Rattle.rules.specs.Regions.{tableHolds}
-use Rattle.rules.specs.Verdict.{platformFaults, initializationFaults, platformsRefusal, directivesRefusal}
-use Rattle.rules.proofs.Acceptance.{platforms-say, initializations-say, headers-say}
-use Rattle.directive_check.proofs.DirectiveRecordLaws.{holds-no-contexts}
+use Rattle.rules.{specs.Regions.tableHolds, specs.Verdict.{platformFaults, initializationFaults, platformsRefusal, directivesRefusal}, proofs.Acceptance.{platforms-say, initializations-say, headers-say}}
+use Rattle.contexts.specs.Contexts.{anyLacks}
+use Rattle.clashes.specs.Clashes.{HoldsTables}
+use Rattle.initialization_check.{specs.declared.RelocRegions.RelocRegions, specs.Record.{anyRegion, regionsIn, HoldsRegions, HoldsRows}}
+use Rattle.directive_check.{specs.Record.{HoldsContexts, lacksContext}, proofs.DirectiveRecordLaws.holds-no-contexts}
+use Rattle.sheet_headers.{specs.Headers.sheetHeaders, proofs.HeaderLaws.sheet-counts}
 use Rattle.directive_pass.proofs.DirectivePass.{directives-end}
 use Rattle.platform_accept.specs.Accepted.{PlatformsAccepted, HoldsCca}
 use Rattle.initialization_accept.specs.Accepted.{InitializationsAccepted}
 use Rattle.directive_accept.specs.Accepted.{firstDirective, DirectivesAccepted}
-use Rattle.contexts.specs.Contexts.{anyLacks}
-use Rattle.clashes.specs.Clashes.{HoldsTables}
 use Rattle.acceptance.specs.Accepted.{RowsAccepted, ListsAccepted}
 
 -- the table lies in the sheet

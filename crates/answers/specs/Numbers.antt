@@ -1,9 +1,8 @@
 -- The numbers of an answer, in the order in which a call across the C linkage names them.
 use Prim.Native.Nat.{ℕ}
-use mathlib.Core.Bool.{Bool, cond}
+use mathlib.Core.Bool.{cond}
 use mathlib.Core.List.{List, [], _∷_}
 use lib.ListN.{getD}
-use Rattle.igvm_defs.specs.declared.Refusal.{Refusal}
 use Rattle.answers.specs.declared.Verdict.{Verdict}
 use Rattle.answers.specs.declared.Relocations.{Relocations}
 use Rattle.answers.specs.declared.Checked.{Checked}

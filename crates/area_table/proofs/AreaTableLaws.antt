@@ -1,17 +1,7 @@
 -- Laws of the table of areas: where an area's place is, what a new node changes, and the empty table.
 -- Assumes nothing.
-use Prim.Native.Nat.{ℕ, zero, suc, _+_, _*_, _-_, _/_, _%_, _≤_, _<_}
-use native.Mathlib.Decide.{decLt, ℕ-discrete}
-use native.Mathlib.Omega.{arith}
-use mathlib.Core.Bool.{Bool, true, false, cond}
-use mathlib.Core.List.{List}
-use mathlib.Core.Logic.{_≢_, _⊎_, inl, inr}
-use mathlib.Core.Path.{_≡_, refl, sym, ap, _∙_}
-use lib.Dec.{eqb}
-use lib.ListN.{length, getD, set, replicate, length-set, length-replicate}
-use lib.Seq.{getD-set-same, getD-set-other}
-use borrow.Author.Tests.{lt-ltb, le-ltb, eq-eqb, ne-eqb, eqb-true}
-use Rattle.rows.proofs.Bools.{not-both, or-left, or-right, or-cases, or-both-false}
+use lib.ListN.{length-replicate}
+use Rattle.rows.{proofs.Kit.{ℕ, zero, suc, _+_, _*_, _-_, _/_, _%_, _≤_, _<_, decLt, ℕ-discrete, arith, Bool, true, false, cond, List, _≢_, _⊎_, inl, inr, _≡_, refl, sym, ap, _∙_, eqb, length, getD, set, replicate, length-set, getD-set-same, getD-set-other, lt-ltb, le-ltb, eq-eqb, ne-eqb, eqb-true}, proofs.Bools.{not-both, or-left, or-right, or-cases, or-both-false}}
 use Rattle.area_table.specs.AreaTable.{root, ends, child, findFrom, placeOf, stateAt, stateIn, HoldsAreas}
 
 root-small : (x : ℕ) → root x < 1024

@@ -1,40 +1,15 @@
 -- One row more among the directive rows that are in order.
 -- Assumes nothing.
-use Prim.Native.Nat.{ℕ, _+_, _-_, _≤_, _<_}
-use native.Mathlib.Omega.{arith}
-use mathlib.Core.Path.{_≡_, refl, sym, ap, _∙_}
-use mathlib.Core.Bool.{Bool, true, false, _&&_, _||_, or-false}
-use mathlib.Core.Option.{none}
-use mathlib.Core.List.{List, []}
-use lib.Dec.{eqb}
-use lib.ListN.{length, take, drop}
-use borrow.Author.Tests.{eqb-false}
-use Rattle.rows.specs.Rows.{Rows, any, before}
-use Rattle.rows.proofs.Bools.{or-false-parts}
-use Rattle.rows.proofs.BelowLaws.{any-more}
-use Rattle.igvm_defs.specs.declared.Arch.{Arch}
-use Rattle.igvm_defs.specs.Kinds.{kindOf, directiveList}
-use Rattle.igvm_defs.specs.Refusals.{isFault}
-use Rattle.sheet.specs.declared.Cursor.{Cursor}
-use Rattle.sheet.specs.Head.{headOf, rowCount}
-use Rattle.sheet.specs.Table.{rowKind, rowLength, bodyOf, offsetOf}
-use Rattle.sheet.specs.Walk.{ReadTo}
-use Rattle.sheet.proofs.Readable.{RowOk, directive-list, body-length}
-use Rattle.sheet.proofs.ReadLaws.{read-more}
-use Rattle.sheet_headers.specs.Headers.{sheetHeaders}
+use Rattle.rows.{proofs.Kit.{ℕ, _+_, _-_, _≤_, _<_, arith, _≡_, refl, sym, ap, _∙_, Bool, true, false, _&&_, _||_, or-false, none, List, [], eqb, length, take, drop, eqb-false}, specs.Rows.{Rows, any, before}, proofs.Bools.or-false-parts, proofs.BelowLaws.any-more}
+use Rattle.igvm_defs.{specs.declared.Arch.Arch, specs.Kinds.{kindOf, directiveList}, specs.Refusals.isFault}
+use Rattle.sheet.{specs.declared.Cursor.Cursor, specs.Head.{headOf, rowCount}, specs.Table.{rowKind, rowLength, bodyOf, offsetOf}, specs.Walk.ReadTo, proofs.Readable.{RowOk, directive-list, body-length}, proofs.ReadLaws.read-more}
 use Rattle.initialization_header.specs.declared.IgvmInitializationHeader.{IgvmInitializationHeader}
-use Rattle.directive_header.specs.declared.IgvmDirectiveHeader.{IgvmDirectiveHeader}
-use Rattle.directive_header.specs.Directives.{directiveOf}
-use Rattle.directive_header.specs.Fields.{kindNumber, areaOf, isParameter}
-use Rattle.directive_header.proofs.DirectiveLaws.{kind-directive, area-directive}
-use Rattle.rules.specs.Directives.{allocates, inserts, badArea, insideTable}
-use Rattle.rules.specs.Verdict.{directiveFaults}
-use Rattle.rules.proofs.Acceptance.{directive-says, inside-table}
-use Rattle.directive_check.specs.Record.{namesArea}
-use Rattle.directive_check.proofs.DirectiveRecordLaws.{holds-next, names-no-area}
+use Rattle.directive_header.{specs.declared.IgvmDirectiveHeader.IgvmDirectiveHeader, specs.Directives.directiveOf, specs.Fields.{kindNumber, areaOf, isParameter}, proofs.DirectiveLaws.{kind-directive, area-directive}}
+use Rattle.rules.{specs.Directives.{allocates, inserts, badArea, insideTable}, specs.Verdict.directiveFaults, proofs.Acceptance.{directive-says, inside-table}}
+use Rattle.directive_check.{specs.Record.namesArea, proofs.DirectiveRecordLaws.{holds-next, names-no-area}}
+use Rattle.sheet_headers.specs.Headers.{sheetHeaders}
 use Rattle.directive_body.specs.Sound.{Sound}
-use Rattle.directive_row.specs.Row.{ContextsNext, PlainRow, stateOf, stateAfter}
-use Rattle.directive_row.proofs.PlainLaws.{page-plain}
+use Rattle.directive_row.{specs.Row.{ContextsNext, PlainRow, stateOf, stateAfter}, proofs.PlainLaws.page-plain}
 use Rattle.directive_accept.specs.Accepted.{firstDirective, DirectivesAccepted, stateBefore, Onward, PlainPassed}
 
 -- ---- a row that names no area

@@ -1,30 +1,16 @@
 -- Rows in order that name an area, and the rows with a table of areas.
 -- Assumes nothing.
-use Prim.Native.Nat.{ℕ, _+_, _-_, _≤_, _<_}
-use native.Mathlib.Omega.{arith}
-use mathlib.Core.Path.{_≡_, refl, sym, _∙_}
-use mathlib.Core.Bool.{true, false, or-false}
-use mathlib.Core.List.{List, [], _∷_}
-use lib.ListN.{length, getD, take, drop, replicate}
-use Rattle.rows.specs.Below.{anyBelow}
-use Rattle.rows.specs.Rows.{Rows, before}
+use Rattle.rows.{proofs.Kit.{ℕ, _+_, _-_, _≤_, _<_, arith, _≡_, refl, sym, _∙_, true, false, or-false, List, [], _∷_, length, getD, take, drop, replicate}, specs.Below.anyBelow, specs.Rows.{Rows, before}}
+use Rattle.sheet.{specs.declared.Cursor.Cursor, specs.Head.{headOf, rowCount}, specs.Table.{rowKind, rowLength, bodyOf}, specs.Walk.ReadTo}
+use Rattle.directive_header.{specs.declared.IgvmDirectiveHeader.IgvmDirectiveHeader, specs.Directives.directiveOf, specs.Fields.isParameter}
 use Rattle.masks.specs.Masks.{shares}
-use Rattle.directive_header.specs.declared.IgvmDirectiveHeader.{IgvmDirectiveHeader}
-use Rattle.directive_header.specs.Directives.{directiveOf}
-use Rattle.directive_header.specs.Fields.{isParameter}
 use Rattle.rules.specs.Directives.{isContext}
-use Rattle.area_table.specs.AreaTable.{HoldsAreas}
-use Rattle.area_table.proofs.AreaTableLaws.{holds-same, holds-none}
-use Rattle.sheet.specs.declared.Cursor.{Cursor}
-use Rattle.sheet.specs.Head.{headOf, rowCount}
-use Rattle.sheet.specs.Table.{rowKind, rowLength, bodyOf}
-use Rattle.sheet.specs.Walk.{ReadTo}
 use Rattle.directive_check.proofs.DirectiveRecordLaws.{holds-no-contexts}
 use Rattle.sheet_headers.specs.Headers.{sheetHeaders}
+use Rattle.area_table.{specs.AreaTable.HoldsAreas, proofs.AreaTableLaws.{holds-same, holds-none}}
+use Rattle.directive_row.{specs.Row.{AreaRow, NamedRow, ContextsNext, stateOf}, proofs.AreaRowLaws.{parameter-table, parameter-context, parameter-state}}
 use Rattle.directive_accept.specs.Accepted.{firstDirective, DirectivesAccepted, NamedAccepted, PlainAccepted, PlainPassed, AreasPassed, Onward, stateBefore}
-use Rattle.directive_row.specs.Row.{AreaRow, NamedRow, ContextsNext, stateOf}
 use Rattle.directive_accept.proofs.AcceptedLaws.{part-body, read-row, accepted-more, state-more}
-use Rattle.directive_row.proofs.AreaRowLaws.{parameter-table, parameter-context, parameter-state}
 
 -- a header that is no context leaves the masks as they are
 pub contexts-stay : (contexts : List ℕ) (h : IgvmDirectiveHeader) → ((level bits : ℕ) → isContext level bits h ≡ false) → ContextsNext contexts h contexts

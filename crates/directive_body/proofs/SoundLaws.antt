@@ -1,22 +1,12 @@
 -- What the tests of a row's body give: the row is in order by itself, kind by kind.
 -- Assumes nothing.
-use Prim.Native.Nat.{ℕ, _+_, _-_, _/_, _%_, _≤_}
-use native.Mathlib.Omega.{arith}
-use mathlib.Core.Path.{_≡_, refl}
-use mathlib.Core.Bool.{true, false}
-use mathlib.Core.List.{List}
-use lib.Dec.{leb}
-use lib.ListN.{length}
-use borrow.Author.Tests.{le-leb, le-ltb}
+use Rattle.rows.proofs.Kit.{ℕ, _+_, _-_, _/_, _%_, _≤_, arith, _≡_, refl, true, List, leb, length, le-leb, le-ltb}
 use Rattle.le.specs.Le.{byteAt, leAt}
-use Rattle.igvm_defs.specs.declared.Arch.{Arch}
-use Rattle.igvm_defs.specs.Kinds.{kindOf, spans, lengthOk}
-use Rattle.igvm_defs.specs.Refusals.{isFault}
-use Rattle.addresses.specs.Addresses.{isMultiple, onPage}
+use Rattle.igvm_defs.{specs.declared.Arch.Arch, specs.Kinds.{kindOf, spans, lengthOk}, specs.Refusals.isFault}
 use Rattle.sheet.specs.Read.{codesOk}
 use Rattle.directive_header.specs.Directives.{directiveOf}
-use Rattle.rules.specs.Accepted.{ownDirectiveFault}
-use Rattle.rules.specs.Directives.{wrongArch}
+use Rattle.addresses.specs.Addresses.{isMultiple, onPage}
+use Rattle.rules.{specs.Accepted.ownDirectiveFault, specs.Directives.wrongArch}
 use Rattle.directive_body.specs.Sound.{Sound}
 
 module _ (arch : Arch) (b : List ℕ) where

@@ -1,31 +1,10 @@
 -- Laws of the contexts' masks, and of the area rule over numbers.
 -- Assumes nothing.
-use Prim.Native.Nat.{ℕ, zero, suc, _+_, _<_}
-use native.Mathlib.Omega.{arith}
-use mathlib.Core.Path.{_≡_, refl, sym, ap, _∙_}
-use mathlib.Core.Bool.{Bool, true, false, cond, not, _&&_, _||_, or-false}
-use mathlib.Core.List.{List, [], _∷_}
-use mathlib.Core.Option.{none}
-use lib.Bits.{bitOr}
-use lib.Dec.{eqb}
-use lib.ListN.{length, getD, set, replicate}
-use lib.Seq.{getD-set-same, getD-set-other}
-use borrow.Author.Tests.{eqb-true, eqb-false}
-use Rattle.rows.specs.Below.{anyBelow}
-use Rattle.rows.specs.Rows.{Rows, any, before}
-use Rattle.rows.proofs.BelowLaws.{any-more}
-use Rattle.rows.proofs.Bools.{or-false-parts}
-use Rattle.igvm_defs.specs.Kinds.{kindOf, directiveList}
-use Rattle.igvm_defs.proofs.KindLaws.{directive-kind}
-use Rattle.igvm_defs.proofs.Runs.{each, _⨾_}
-use Rattle.masks.specs.Masks.{shares}
-use Rattle.masks.proofs.MaskLaws.{shares-zero-left, shares-or}
-use Rattle.directive_header.specs.declared.IgvmDirectiveHeader.{IgvmDirectiveHeader}
-use Rattle.directive_header.specs.declared.IgvmDirectiveHeader.the-variants.{PageData, ParameterArea, VpCount, EnvironmentInfo, Srat, Madt, Slit, Pptt, MmioRanges, MemoryMap, CommandLine, DeviceTree, RequiredMemory, SnpVpContext, X64NativeVpContext, X64VbsVpContext, AArch64VbsVpContext, AArch64CcaVpContext, ParameterInsert, ErrorRange, SnpIdBlock, VbsMeasurement}
-use Rattle.directive_header.specs.Directives.{directiveOf}
-use Rattle.directive_header.specs.Fields.{kindNumber, areaOf, isParameter, areaNamed}
-use Rattle.rules.specs.declared.Region.{Region}
-use Rattle.rules.specs.Directives.{testArea, allocates, inserts, isAllocated, badArea, isContext, noContext}
+use Rattle.rows.{proofs.Kit.{ℕ, zero, suc, _+_, _<_, arith, _≡_, refl, sym, ap, _∙_, Bool, true, false, cond, not, _&&_, _||_, or-false, List, [], _∷_, none, bitOr, eqb, length, getD, set, replicate, getD-set-same, getD-set-other, eqb-true, eqb-false}, specs.Below.anyBelow, specs.Rows.{Rows, any, before}, proofs.BelowLaws.any-more, proofs.Bools.or-false-parts}
+use Rattle.igvm_defs.{specs.Kinds.{kindOf, directiveList}, proofs.KindLaws.directive-kind, proofs.Runs.{each, _⨾_}}
+use Rattle.directive_header.{specs.declared.IgvmDirectiveHeader.IgvmDirectiveHeader, specs.declared.IgvmDirectiveHeader.the-variants.{PageData, ParameterArea, VpCount, EnvironmentInfo, Srat, Madt, Slit, Pptt, MmioRanges, MemoryMap, CommandLine, DeviceTree, RequiredMemory, SnpVpContext, X64NativeVpContext, X64VbsVpContext, AArch64VbsVpContext, AArch64CcaVpContext, ParameterInsert, ErrorRange, SnpIdBlock, VbsMeasurement}, specs.Directives.directiveOf, specs.Fields.{kindNumber, areaOf, isParameter, areaNamed}}
+use Rattle.masks.{specs.Masks.shares, proofs.MaskLaws.{shares-zero-left, shares-or}}
+use Rattle.rules.{specs.declared.Region.Region, specs.Directives.{testArea, allocates, inserts, isAllocated, badArea, isContext, noContext}}
 use Rattle.directive_check.specs.Record.{HoldsContexts, lacksContext, howOf, howNamed, namesArea, areaNumber}
 
 -- ---- contexts

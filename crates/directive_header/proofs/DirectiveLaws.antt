@@ -1,23 +1,11 @@
 -- Laws of directive headers.
 -- Assumes nothing.
-use mathlib.Core.Path.{_≡_, refl}
-use mathlib.Core.Bool.{false, not, _||_, true≢false}
-use mathlib.Core.List.{List}
-use mathlib.Core.Option.{none}
-use Prim.Native.Nat.{ℕ, _+_}
-use lib.Dec.{T, eqb}
 use mir.Val.{hasKey}
 use types.Run.{OneOf}
-use denote.Enum.Declared.{tagOf}
+use Rattle.rows.proofs.Kit.{_≡_, refl, false, not, _||_, true≢false, List, none, ℕ, _+_, T, eqb, tagOf}
 use Rattle.le.proofs.LeLaws.{le-read, byte-read}
-use Rattle.igvm_defs.specs.Kinds.{directiveList, kindOf, spans, fields}
-use Rattle.igvm_defs.proofs.KindLaws.{Local, LocalAt, directive-kind}
-use Rattle.igvm_defs.proofs.Runs.{each, _⨾_}
-use Rattle.igvm_defs.proofs.Tags.{not-number}
-use Rattle.directive_header.specs.declared.IgvmDirectiveHeader.{IgvmDirectiveHeader}
-use Rattle.directive_header.specs.declared.IgvmDirectiveHeader.the-variants.{PageData, ParameterArea, VpCount, EnvironmentInfo, Srat, Madt, Slit, Pptt, MmioRanges, MemoryMap, CommandLine, DeviceTree, RequiredMemory, SnpVpContext, X64NativeVpContext, X64VbsVpContext, AArch64VbsVpContext, AArch64CcaVpContext, ParameterInsert, ErrorRange, SnpIdBlock, VbsMeasurement}
-use Rattle.directive_header.specs.Directives.{directiveOf}
-use Rattle.directive_header.specs.Fields.{kindNumber, areaOf, isParameter, areaNamed}
+use Rattle.igvm_defs.{specs.Kinds.{directiveList, kindOf, spans, fields}, proofs.KindLaws.{Local, LocalAt, directive-kind}, proofs.Runs.{each, _⨾_}, proofs.Tags.not-number}
+use Rattle.directive_header.specs.{declared.IgvmDirectiveHeader.IgvmDirectiveHeader, declared.IgvmDirectiveHeader.the-variants.{PageData, ParameterArea, VpCount, EnvironmentInfo, Srat, Madt, Slit, Pptt, MmioRanges, MemoryMap, CommandLine, DeviceTree, RequiredMemory, SnpVpContext, X64NativeVpContext, X64VbsVpContext, AArch64VbsVpContext, AArch64CcaVpContext, ParameterInsert, ErrorRange, SnpIdBlock, VbsMeasurement}, Directives.directiveOf, Fields.{kindNumber, areaOf, isParameter, areaNamed}}
 use Rattle.directive_header.proofs.IgvmDirectiveHeader.{the-type}
 
 -- a header says no more than the kind, the body's length and its fields

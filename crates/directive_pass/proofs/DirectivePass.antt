@@ -1,40 +1,15 @@
 -- What the pass over directive rows cites: the rows of a readable sheet, what they tell of areas, and the refusal of the list.
 -- Assumes nothing.
-use Prim.Native.Nat.{ℕ, _+_, _<_, _≤_}
-use native.Mathlib.Omega.{arith}
-use mathlib.Core.Path.{_≡_, refl, sym, ap, _∙_}
-use mathlib.Core.Bool.{true, false, _&&_, _||_, false≢true}
-use mathlib.Core.List.{List}
-use lib.Dec.{eqb}
-use Rattle.rows.specs.Below.{anyBelow}
-use Rattle.rows.specs.Rows.{Rows, any, before}
-use Rattle.rows.proofs.BelowLaws.{any-more, any-same-tests}
-use Rattle.igvm_defs.specs.declared.Arch.{Arch}
-use Rattle.igvm_defs.specs.declared.Fault.{Fault}
-use Rattle.igvm_defs.specs.Kinds.{kindOf, directiveList}
-use Rattle.igvm_defs.specs.Refusals.{fault, noFault, noRefusal, refuse, isFault, isRefusal, inRow}
-use Rattle.igvm_defs.proofs.RefusalLaws.{row-refusal, orElse-first, orElse-later, fault-stop, fault-end}
-use Rattle.directive_header.specs.declared.IgvmDirectiveHeader.{IgvmDirectiveHeader}
-use Rattle.directive_header.specs.Fields.{areaOf, areaNamed}
-use Rattle.directive_header.specs.Directives.{directiveOf}
-use Rattle.directive_header.proofs.DirectiveLaws.{area-directive}
-use Rattle.sheet.specs.declared.Cursor.{Cursor}
-use Rattle.sheet.specs.Head.{limits, headOf}
-use Rattle.sheet.specs.Read.{Readable}
-use Rattle.sheet.specs.Table.{rowKind, bodyOf}
-use Rattle.sheet.specs.Walk.{cursorAt, AtRow}
-use Rattle.sheet.proofs.Readable.{at-row, directive-row, readable-bounds}
+use Rattle.rows.{proofs.Kit.{ℕ, _+_, _<_, _≤_, arith, _≡_, refl, sym, ap, _∙_, true, false, _&&_, _||_, false≢true, List, eqb}, specs.Below.anyBelow, specs.Rows.{Rows, any, before}, proofs.BelowLaws.{any-more, any-same-tests}}
+use Rattle.igvm_defs.{specs.declared.Arch.Arch, specs.declared.Fault.Fault, specs.Kinds.{kindOf, directiveList}, specs.Refusals.{fault, noFault, noRefusal, refuse, isFault, isRefusal, inRow}, proofs.RefusalLaws.{row-refusal, orElse-first, orElse-later, fault-stop, fault-end}}
+use Rattle.sheet.{specs.declared.Cursor.Cursor, specs.Head.{limits, headOf}, specs.Read.Readable, specs.Table.{rowKind, bodyOf}, specs.Walk.{cursorAt, AtRow}, proofs.Readable.{at-row, directive-row, readable-bounds}}
 use Rattle.initialization_header.specs.declared.IgvmInitializationHeader.{IgvmInitializationHeader}
-use Rattle.rules.specs.Regions.{regionPasses, tableHolds}
-use Rattle.rules.specs.Directives.{allocates, inserts, noContext}
-use Rattle.rules.specs.Verdict.{Headers, directiveFaults, noMatchingVpContext, directivesRefusal}
-use Rattle.sheet_headers.specs.Headers.{sheetHeaders}
-use Rattle.sheet_headers.proofs.HeaderLaws.{sheet-counts}
-use Rattle.initialization_check.specs.declared.RelocRegions.{RelocRegions}
-use Rattle.initialization_check.specs.Record.{entry, anyRegion, HoldsRegions}
-use Rattle.directive_check.specs.Record.{HoldsContexts, lacksContext, DirectiveStepped, howOf, howNamed, areaNumber}
-use Rattle.directive_check.proofs.DirectiveRecordLaws.{lacks-says, how-directive, allocates-says, inserts-says}
+use Rattle.directive_header.{specs.declared.IgvmDirectiveHeader.IgvmDirectiveHeader, specs.Fields.{areaOf, areaNamed}, specs.Directives.directiveOf, proofs.DirectiveLaws.area-directive}
+use Rattle.rules.{specs.Regions.{regionPasses, tableHolds}, specs.Directives.{allocates, inserts, noContext}, specs.Verdict.{Headers, directiveFaults, noMatchingVpContext, directivesRefusal}}
 use Rattle.clashes.specs.Clashes.{HoldsTables}
+use Rattle.initialization_check.{specs.declared.RelocRegions.RelocRegions, specs.Record.{entry, anyRegion, HoldsRegions}}
+use Rattle.directive_check.{specs.Record.{HoldsContexts, lacksContext, DirectiveStepped, howOf, howNamed, areaNumber}, proofs.DirectiveRecordLaws.{lacks-says, how-directive, allocates-says, inserts-says}}
+use Rattle.sheet_headers.{specs.Headers.sheetHeaders, proofs.HeaderLaws.sheet-counts}
 use Rattle.directive_pass.specs.Passed.{firstDirective, DirectivesPassed}
 
 -- ---- the directive rows of a readable sheet

@@ -1,32 +1,14 @@
 -- Rows that name an area: what is known of it tells the area rule, and what is known afterwards.
 -- Assumes nothing.
-use Prim.Native.Nat.{ℕ, _≤_, _<_}
-use native.Mathlib.Omega.{arith}
-use mathlib.Core.Path.{_≡_, refl, sym, ap, _∙_}
-use mathlib.Core.Bool.{Bool, true, false, cond, not, _||_, or-false}
-use mathlib.Core.List.{List}
-use lib.Dec.{eqb, leb}
-use lib.ListN.{length}
-use borrow.Author.Tests.{leb-true, le-leb, eqb-true}
+use Rattle.rows.{proofs.Kit.{ℕ, _≤_, _<_, arith, _≡_, refl, sym, ap, _∙_, Bool, true, false, cond, not, _||_, or-false, List, eqb, leb, length, leb-true, le-leb, eqb-true}, specs.Rows.{Rows, any}, proofs.Bools.{and-parts, and-both}}
 use Rattle.le.specs.Le.{leAt}
-use Rattle.rows.specs.Rows.{Rows, any}
-use Rattle.rows.proofs.Bools.{and-parts, and-both}
-use Rattle.igvm_defs.specs.declared.Arch.{Arch}
-use Rattle.igvm_defs.specs.declared.Kind.{Kind}
-use Rattle.igvm_defs.specs.Kinds.{kindOf, spans, lengthOk, directiveList}
-use Rattle.igvm_defs.specs.Refusals.{isFault}
-use Rattle.igvm_defs.proofs.Runs.{each, _⨾_}
-use Rattle.addresses.specs.Addresses.{onPage}
+use Rattle.igvm_defs.{specs.declared.Arch.Arch, specs.declared.Kind.Kind, specs.Kinds.{kindOf, spans, lengthOk, directiveList}, specs.Refusals.isFault, proofs.Runs.{each, _⨾_}}
 use Rattle.sheet.specs.Read.{codesOk}
 use Rattle.initialization_header.specs.declared.IgvmInitializationHeader.{IgvmInitializationHeader}
-use Rattle.directive_header.specs.declared.IgvmDirectiveHeader.{IgvmDirectiveHeader}
-use Rattle.directive_header.specs.Directives.{directiveOf}
-use Rattle.directive_header.specs.Fields.{isParameter}
-use Rattle.rules.specs.Regions.{regionPasses, tableHolds}
-use Rattle.rules.specs.Accepted.{ownDirectiveFault}
-use Rattle.rules.specs.Directives.{wrongArch, allocates, inserts, isAllocated, badArea, insideTable, isContext}
-use Rattle.area_table.specs.AreaTable.{HoldsAreas, stateIn}
-use Rattle.area_table.proofs.AreaTableLaws.{holds-same}
+use Rattle.directive_header.{specs.declared.IgvmDirectiveHeader.IgvmDirectiveHeader, specs.Directives.directiveOf, specs.Fields.isParameter}
+use Rattle.addresses.specs.Addresses.{onPage}
+use Rattle.rules.{specs.Regions.{regionPasses, tableHolds}, specs.Accepted.ownDirectiveFault, specs.Directives.{wrongArch, allocates, inserts, isAllocated, badArea, insideTable, isContext}}
+use Rattle.area_table.{specs.AreaTable.{HoldsAreas, stateIn}, proofs.AreaTableLaws.holds-same}
 use Rattle.directive_body.specs.Sound.{Sound}
 use Rattle.directive_row.specs.Row.{AreaRow, NamedRow, areaState, stateOf, stateAfter}
 

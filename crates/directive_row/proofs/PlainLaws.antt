@@ -1,28 +1,13 @@
 -- What the tests of a row that names no area give, kind by kind.
 -- Assumes nothing.
-use Prim.Native.Nat.{ℕ, _-_, _≤_}
-use native.Mathlib.Omega.{arith}
-use mathlib.Core.Path.{_≡_, refl, sym, ap, _∙_}
-use mathlib.Core.Bool.{Bool, true, false, not, or-false, false≢true}
-use mathlib.Core.List.{List}
-use lib.Bits.{bitOr}
-use lib.Dec.{leb}
-use lib.ListN.{length, getD, set}
-use borrow.Author.Tests.{le-leb}
+use Rattle.rows.proofs.Kit.{ℕ, _-_, _≤_, arith, _≡_, refl, sym, ap, _∙_, Bool, true, false, not, or-false, false≢true, List, bitOr, leb, length, getD, set, le-leb}
 use Rattle.le.specs.Le.{byteAt, leAt}
-use Rattle.igvm_defs.specs.declared.Arch.{Arch}
-use Rattle.igvm_defs.specs.declared.Arch.the-variants.{X64, AArch64}
-use Rattle.igvm_defs.specs.Kinds.{kindOf, spans, lengthOk}
-use Rattle.igvm_defs.specs.Revision.{isX64, isAArch64}
-use Rattle.igvm_defs.specs.Refusals.{isFault}
-use Rattle.igvm_defs.proofs.VtlLaws.{vtl-number}
-use Rattle.masks.specs.Masks.{shares}
+use Rattle.igvm_defs.{specs.declared.Arch.Arch, specs.declared.Arch.the-variants.{X64, AArch64}, specs.Kinds.{kindOf, spans, lengthOk}, specs.Revision.{isX64, isAArch64}, specs.Refusals.isFault, proofs.VtlLaws.vtl-number}
 use Rattle.sheet.specs.Read.{codesOk}
 use Rattle.directive_header.specs.Directives.{directiveOf}
-use Rattle.rules.specs.Accepted.{ownDirectiveFault}
-use Rattle.rules.specs.Directives.{wrongArch, isContext}
-use Rattle.directive_check.specs.Record.{namesArea}
-use Rattle.directive_check.proofs.DirectiveRecordLaws.{context-set}
+use Rattle.masks.specs.Masks.{shares}
+use Rattle.rules.{specs.Accepted.ownDirectiveFault, specs.Directives.{wrongArch, isContext}}
+use Rattle.directive_check.{specs.Record.namesArea, proofs.DirectiveRecordLaws.context-set}
 use Rattle.directive_body.specs.Sound.{Sound}
 use Rattle.directive_row.specs.Row.{VbsContext, PlainRow}
 

@@ -1,25 +1,11 @@
 -- A region apart from what regions lie within overlaps none of them.
 -- Assumes nothing.
-use mathlib.Core.Path.{_≡_, refl, sym, _∙_}
-use mathlib.Core.Bool.{Bool, true, false, cond, not, _&&_, _||_}
-use mathlib.Core.Logic.{_⊎_, inl, inr}
-use mathlib.Core.Option.{none, some}
-use Prim.Native.Nat.{ℕ, _+_, _≤_}
-use native.Mathlib.Omega.{arith}
-use lib.Dec.{leb, ltb}
-use borrow.Author.Tests.{leb-true, le-leb, le-ltb, not-true}
-use Rattle.rows.specs.Rows.{Rows, any, before}
-use Rattle.rows.proofs.Bools.{or-cases, or-left, or-right, or-false-parts, and-parts, and-both}
-use Rattle.rows.proofs.BelowLaws.{any-more}
-use Rattle.masks.specs.Masks.{shares}
-use Rattle.masks.proofs.MaskLaws.{shares-sym, shares-or}
-use Rattle.addresses.specs.Addresses.{meets}
+use Rattle.rows.{proofs.Kit.{_≡_, refl, sym, _∙_, Bool, true, false, cond, not, _&&_, _||_, _⊎_, inl, inr, none, some, ℕ, _+_, _≤_, arith, leb, ltb, leb-true, le-leb, le-ltb, not-true}, specs.Rows.{Rows, any, before}, proofs.Bools.{or-cases, or-left, or-right, or-false-parts, and-parts, and-both}, proofs.BelowLaws.any-more}
 use Rattle.initialization_header.specs.declared.IgvmInitializationHeader.{IgvmInitializationHeader}
-use Rattle.rules.specs.declared.Region.{Region}
-use Rattle.rules.specs.Regions.{regionOf, regionPasses, overlap}
-use Rattle.extents.specs.declared.Extent.{Extent}
-use Rattle.extents.specs.declared.Reach.{Reach}
-use Rattle.extents.specs.Extents.{apart, Widened, apartFrom, Covers}
+use Rattle.masks.{specs.Masks.shares, proofs.MaskLaws.{shares-sym, shares-or}}
+use Rattle.addresses.specs.Addresses.{meets}
+use Rattle.rules.{specs.declared.Region.Region, specs.Regions.{regionOf, regionPasses, overlap}}
+use Rattle.extents.specs.{declared.Extent.Extent, declared.Reach.Reach, Extents.{apart, Widened, apartFrom, Covers}}
 
 -- ---- one extent
 

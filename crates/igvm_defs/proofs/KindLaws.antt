@@ -1,14 +1,6 @@
 -- Laws of the table of kinds: which kinds a list has, and that a body's fields lie within its least length.
 -- Assumes nothing.
-use mathlib.Core.Path.{_≡_, refl}
-use mathlib.Core.Bool.{Bool, true, false, cond, not, _&&_, _||_, false≢true}
-use mathlib.Core.List.{List, [], _∷_}
-use Prim.Native.Nat.{ℕ, suc, _<_, _≤_}
-use native.Mathlib.Omega.{arith}
-use lib.Dec.{leb, eqb}
-use lib.ListN.{length, take}
-use borrow.Author.Tests.{leb-true, eqb-true, eq-eqb}
-use Rattle.rows.proofs.Bools.{and-parts}
+use Rattle.rows.{proofs.Kit.{_≡_, refl, Bool, true, false, cond, not, _&&_, _||_, false≢true, List, [], _∷_, ℕ, suc, _<_, _≤_, arith, leb, eqb, length, take, leb-true, eqb-true, eq-eqb}, proofs.Bools.and-parts}
 use Rattle.igvm_defs.specs.Kinds.{Span, lookup, spans, kindOf, fields, platformList, initializationList, directiveList}
 
 -- ---- the kinds of a list

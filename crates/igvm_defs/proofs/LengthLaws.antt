@@ -1,13 +1,7 @@
 -- Laws of body lengths.
 -- Assumes nothing.
-use mathlib.Core.Path.{_≡_}
-use mathlib.Core.Bool.{Bool, true, false, cond}
-use Prim.Native.Nat.{ℕ, _≤_}
-use native.Mathlib.Omega.{arith}
-use lib.Dec.{leb, eqb}
-use borrow.Author.Tests.{leb-true, eqb-true}
-use Rattle.igvm_defs.specs.declared.Kind.{Kind}
-use Rattle.igvm_defs.specs.Kinds.{lengthOk}
+use Rattle.rows.proofs.Kit.{_≡_, Bool, true, false, cond, ℕ, _≤_, arith, leb, eqb, leb-true, eqb-true}
+use Rattle.igvm_defs.specs.{declared.Kind.Kind, Kinds.lengthOk}
 
 -- a length that the kind allows is at least its least
 pub length-least : (t : Kind) (n : ℕ) → lengthOk t n ≡ true → t .least ≤ n

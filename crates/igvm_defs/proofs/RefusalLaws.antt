@@ -1,15 +1,8 @@
 -- Laws of faults and refusals: whether there is one, as an equation, and which one it is.
 -- Assumes nothing.
-use mathlib.Core.Path.{_≡_, refl, ap}
-use mathlib.Core.Bool.{Bool, true, false, not, cond, _||_}
-use mathlib.Core.Option.{Option, none, some}
-use Prim.Native.Nat.{ℕ, suc, _+_, _<_}
 use lib.Dec.{eqb·suc-zero}
-use Rattle.rows.specs.Below.{anyBelow, firstBelow}
-use Rattle.rows.proofs.BelowLaws.{any-below, none-any, first-any, first-at, first-says}
-use Rattle.igvm_defs.specs.declared.Refusal.{Refusal}
-use Rattle.igvm_defs.specs.declared.Fault.{Fault}
-use Rattle.igvm_defs.specs.Refusals.{refusal, noRefusal, fault, noFault, refuse, isFault, isRefusal, inRow, orElse, refusalAt, firstFault}
+use Rattle.rows.{proofs.Kit.{_≡_, refl, ap, Bool, true, false, not, cond, _||_, Option, none, some, ℕ, suc, _+_, _<_}, specs.Below.{anyBelow, firstBelow}, proofs.BelowLaws.{any-below, none-any, first-any, first-at, first-says}}
+use Rattle.igvm_defs.specs.{declared.Refusal.Refusal, declared.Fault.Fault, Refusals.{refusal, noRefusal, fault, noFault, refuse, isFault, isRefusal, inRow, orElse, refusalAt, firstFault}}
 
 -- ---- whether there is a fault, a refusal
 pub no-fault : isFault noFault ≡ false

@@ -1,10 +1,6 @@
 -- Runs of numbers: a law for each number of a run, and what the `_` of a `match` knows where its other arms are a run.
 -- Assumes nothing.
-use mathlib.Core.Path.{_≡_}
-use mathlib.Core.Logic.{_⊎_, inl, inr}
-use Prim.Native.Nat.{ℕ, zero, suc, _+_, _<_, _≤_}
-use native.Mathlib.Nat.{eq-or-lt-of-le}
-use native.Mathlib.Omega.{arith}
+use Rattle.rows.proofs.Kit.{_≡_, _⊎_, inl, inr, ℕ, zero, suc, _+_, _<_, _≤_, eq-or-lt-of-le, arith}
 
 -- a law for each of a, .., a + n - 1, from its proofs: (proof at a) ⨾ .. ⨾ (proof at a + n - 1) ⨾ tt
 infixr 5 _⨾_

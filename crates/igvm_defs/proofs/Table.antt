@@ -1,14 +1,9 @@
 -- A table's rule, proved at all of its entries at once: the table is what a function says of 0, 1, .., which antt computes; and what a
 -- lookup past every span gives.
 -- Assumes nothing.
-use mathlib.Core.Path.{_≡_, refl, _∙_, ap, sym}
-use mathlib.Core.Bool.{Bool, true, false, _&&_, and-false}
-use mathlib.Core.List.{List, [], _∷_}
-use Prim.Native.Nat.{ℕ, zero, suc, _+_, _<_, _≤_}
-use native.Mathlib.Nat.{zero-add, add-zero, add-suc, suc-add, le-of-suc-le-suc, not-suc-le-zero, lt-of-lt-of-le}
-use lib.Dec.{T, ltb, leb, ltb→lt}
-use lib.ListN.{length, getD}
-use borrow.Author.Tests.{lt-leb}
+use native.Mathlib.Nat.{suc-add, lt-of-lt-of-le}
+use lib.Dec.{ltb→lt}
+use Rattle.rows.proofs.Kit.{_≡_, refl, _∙_, ap, sym, Bool, true, false, _&&_, and-false, List, [], _∷_, ℕ, zero, suc, _+_, _<_, _≤_, zero-add, add-zero, add-suc, le-of-suc-le-suc, not-suc-le-zero, T, ltb, leb, getD, lt-leb}
 use Rattle.igvm_defs.specs.Kinds.{Span, lookup, noKind}
 
 module _ {A : Type 0} (f : ℕ → A) where

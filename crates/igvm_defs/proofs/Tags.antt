@@ -1,14 +1,8 @@
 -- What an arm of a `match` on an enum knows that binds nothing, as `_` does: the variant's place, from 0, is one of a list.
 -- Assumes nothing.
-use Prim.Native.Nat.{ℕ, _+_}
-use mathlib.Core.Path.{_≡_, subst}
-use mathlib.Core.Bool.{not, false}
-use mathlib.Core.List.{List}
-use native.Mathlib.Omega.{arith}
-use lib.Dec.{T, eqb}
-use borrow.Author.Tests.{ne-eqb}
 use mir.Val.{hasKey}
 use types.Run.{OneOf, miss}
+use Rattle.rows.proofs.Kit.{ℕ, _+_, _≡_, subst, not, false, List, arith, T, eqb, ne-eqb}
 
 -- x is one of ks, so it is no number that ks lacks
 pub not-key : (ks : List ℕ) (x k : ℕ) → T (not (hasKey ks k)) → OneOf ks x → x ≡ k → ⊥

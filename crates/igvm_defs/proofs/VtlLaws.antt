@@ -1,8 +1,6 @@
 -- Laws of virtual trust levels.
 -- Assumes nothing.
-use mathlib.Core.Path.{_≡_, refl}
-use Prim.Native.Nat.{ℕ, _≤_}
-use native.Mathlib.Omega.{arith}
+use Rattle.rows.proofs.Kit.{_≡_, refl, ℕ, _≤_, arith}
 use Rattle.igvm_defs.specs.Vtls.{vtlOf, vtlNumber}
 use Rattle.igvm_defs.proofs.Runs.{each, _⨾_}
 

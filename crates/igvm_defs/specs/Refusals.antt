@@ -1,7 +1,7 @@
 -- A refusal is a number, the row that it names (from 1; 0 for the sheet as a whole) and a detail. All three are 0 where nothing is refused.
 -- A fault is what is wrong with one row, or with the sheet as a whole: the refusal's number and detail.
-use Prim.Native.Nat.{ℕ, suc, _+_}
-use mathlib.Core.Bool.{Bool, true, false, cond, not}
+use Prim.Native.Nat.{ℕ, _+_}
+use mathlib.Core.Bool.{Bool, cond, not}
 use mathlib.Core.Option.{Option, none, some}
 use lib.Dec.{eqb}
 use Rattle.rows.specs.Below.{firstBelow}

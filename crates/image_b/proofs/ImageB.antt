@@ -1,32 +1,18 @@
 -- Document 01's claims of image B, by computation.
 -- Assumes nothing.
-use mathlib.Core.Path.{refl}
 use lib.Count.{ones, onesIn}
-use Rattle.rows.specs.Below.{anyBelow, firstBelow, sumBelow, nthBelow}
+use Rattle.rows.{proofs.Kit.refl, specs.Below.{anyBelow, firstBelow, sumBelow, nthBelow}}
 use Rattle.le.specs.Le.{leAt}
-use Rattle.igvm_defs.specs.Refusals.{isFault, isRefusal, inRow, orElse, firstFault}
-use Rattle.igvm_defs.specs.Kinds.{spans, kindOf, lengthOk}
-use Rattle.igvm_defs.specs.Platforms.{platformTypes, isPlatformType, platformTypeOf}
-use Rattle.igvm_defs.specs.Vtls.{vtlOf}
-use Rattle.igvm_defs.proofs.Runs.{_⨾_}
-use Rattle.sheet.specs.Head.{limits, headOf, layoutOk, withinLimits, startFault, revisionOf, pageSizeFault}
-use Rattle.sheet.specs.Table.{rowKind, rowLength, offsetOf, bodyOf}
-use Rattle.sheet.specs.Read.{listAt, codesOk, rowFault, endFault, rowsRefusal, readRefusal, sheetRefusal}
-use Rattle.sheet.proofs.Examples.{imageB}
+use Rattle.igvm_defs.{specs.Refusals.{isFault, isRefusal, inRow, orElse, firstFault}, specs.Kinds.{spans, kindOf, lengthOk}, specs.Platforms.{platformTypes, isPlatformType, platformTypeOf}, specs.Vtls.vtlOf, proofs.Runs._⨾_}
+use Rattle.sheet.{specs.Head.{limits, headOf, layoutOk, withinLimits, startFault, revisionOf, pageSizeFault}, specs.Table.{rowKind, rowLength, offsetOf, bodyOf}, specs.Read.{listAt, codesOk, rowFault, endFault, rowsRefusal, readRefusal, sheetRefusal}, proofs.Examples.imageB}
 use Rattle.platform_header.specs.Platforms.{platformOf}
 use Rattle.initialization_header.specs.Initializations.{initializationOf}
 use Rattle.directive_header.specs.Directives.{directiveOf}
 use Rattle.masks.specs.Masks.{shares, matches, isOneBit}
 use Rattle.addresses.specs.Addresses.{isMultiple, contains, meets, endsBeyond, baseValid}
-use Rattle.rules.specs.Regions.{regionPasses, tablesShare, overlap}
-use Rattle.rules.specs.Platforms.{validatePlatform, sameType, platformFault}
-use Rattle.rules.specs.Initializations.{validateRegion, initializationFault}
-use Rattle.rules.specs.Directives.{wrongArch, badArea, directiveFault, noContext}
-use Rattle.rules.specs.Verdict.{noPlatform, noMatchingVpContext, platformsRefusal, initializationsRefusal, directivesRefusal, headersRefusal}
-use Rattle.rules.specs.Relocations.{regionCount, regionAt}
+use Rattle.rules.{specs.Regions.{regionPasses, tablesShare, overlap}, specs.Platforms.{validatePlatform, sameType, platformFault}, specs.Initializations.{validateRegion, initializationFault}, specs.Directives.{wrongArch, badArea, directiveFault, noContext}, specs.Verdict.{noPlatform, noMatchingVpContext, platformsRefusal, initializationsRefusal, directivesRefusal, headersRefusal}, specs.Relocations.{regionCount, regionAt}}
 use Rattle.sheet_headers.specs.Headers.{sheetHeaders}
-use Rattle.answers.specs.Verdict.{verdictRefusal}
-use Rattle.answers.specs.Relocations.{maskFault, regionFault, checkRefusal, checkOf}
+use Rattle.answers.{specs.Verdict.verdictRefusal, specs.Relocations.{maskFault, regionFault, checkRefusal, checkOf}}
 use Rattle.image_b.specs.Claims.{claims, AllTrue}
 
 pub image-b : AllTrue claims

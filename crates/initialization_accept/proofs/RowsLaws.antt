@@ -1,45 +1,17 @@
 -- The pass over the initialization rows: what holds at a turn of its loop, and that a row which it accepts leads to the next turn.
 -- Assumes nothing.
-use mathlib.Core.Path.{_≡_, refl, sym, ap, _∙_}
-use mathlib.Core.Bool.{Bool, true, false, cond, not, _&&_, _||_}
-use mathlib.Core.List.{List}
-use mathlib.Core.Option.{none, some}
-use Prim.Native.Nat.{ℕ, _+_, _-_, _*_, _≤_, _<_}
-use native.Mathlib.Omega.{arith}
-use lib.ListN.{length, take, drop, set}
-use Rattle.rows.specs.Below.{anyBelow}
-use Rattle.rows.specs.Rows.{Rows, any, before}
-use Rattle.rows.proofs.Bools.{or-false-parts}
-use Rattle.rows.proofs.BelowLaws.{any-more}
-use Rattle.igvm_defs.specs.declared.Arch.{Arch}
-use Rattle.igvm_defs.specs.Refusals.{isFault}
-use Rattle.igvm_defs.specs.Revision.{isX64}
-use Rattle.sheet.specs.declared.Cursor.{Cursor}
-use Rattle.sheet.specs.Head.{headOf, bodiesAt}
-use Rattle.sheet.specs.Table.{rowKind, rowLength, offsetOf, bodyOf}
-use Rattle.sheet.specs.Walk.{ReadTo}
-use Rattle.sheet.proofs.Readable.{RowOk, body-length, initialization-list}
-use Rattle.sheet.proofs.ReadLaws.{read-more}
+use Rattle.rows.{proofs.Kit.{_≡_, refl, sym, ap, _∙_, Bool, true, false, cond, not, _&&_, _||_, List, none, some, ℕ, _+_, _-_, _*_, _≤_, _<_, arith, length, take, drop, set}, specs.Below.anyBelow, specs.Rows.{Rows, any, before}, proofs.Bools.or-false-parts, proofs.BelowLaws.any-more}
+use Rattle.igvm_defs.{specs.declared.Arch.Arch, specs.Refusals.isFault, specs.Revision.isX64}
+use Rattle.sheet.{specs.declared.Cursor.Cursor, specs.Head.{headOf, bodiesAt}, specs.Table.{rowKind, rowLength, offsetOf, bodyOf}, specs.Walk.ReadTo, proofs.Readable.{RowOk, body-length, initialization-list}, proofs.ReadLaws.read-more}
 use Rattle.platform_header.specs.declared.IgvmPlatformHeader.{IgvmPlatformHeader}
-use Rattle.initialization_header.specs.declared.IgvmInitializationHeader.{IgvmInitializationHeader}
-use Rattle.initialization_header.specs.Initializations.{initializationOf}
-use Rattle.sheet_headers.specs.Headers.{sheetHeaders}
-use Rattle.rules.specs.declared.Region.{Region}
-use Rattle.rules.specs.Regions.{regionOf, regionPasses, tablesShare, overlap}
-use Rattle.rules.specs.Initializations.{withoutCca, initializationFault}
-use Rattle.rules.specs.Accepted.{ownInitializationFault, regionsClash}
-use Rattle.rules.specs.Verdict.{initializationFaults}
-use Rattle.rules.proofs.RegionLaws.{clash-any}
-use Rattle.rules.proofs.Acceptance.{initialization-says}
-use Rattle.extents.specs.declared.Reach.{Reach}
-use Rattle.extents.specs.Extents.{apartFrom, Covers}
-use Rattle.extents.proofs.ExtentLaws.{near-overlap, covers-more}
-use Rattle.initialization_check.specs.declared.RelocRegions.{RelocRegions}
+use Rattle.initialization_header.{specs.declared.IgvmInitializationHeader.IgvmInitializationHeader, specs.Initializations.initializationOf}
+use Rattle.rules.{specs.declared.Region.Region, specs.Regions.{regionOf, regionPasses, tablesShare, overlap}, specs.Initializations.{withoutCca, initializationFault}, specs.Accepted.{ownInitializationFault, regionsClash}, specs.Verdict.initializationFaults, proofs.RegionLaws.clash-any, proofs.Acceptance.initialization-says}
 use Rattle.clashes.specs.Clashes.{anyTablesShare, anyOverlap}
-use Rattle.initialization_check.specs.Record.{HoldsRegions, stored}
-use Rattle.initialization_check.proofs.RecordLaws.{Room, Lent, lent-stored, holds-none, rows-none, holds-stored, rows-stored, holds-clashes}
-use Rattle.initialization_row.specs.Row.{InOrder}
+use Rattle.extents.{specs.declared.Reach.Reach, specs.Extents.{apartFrom, Covers}, proofs.ExtentLaws.{near-overlap, covers-more}}
+use Rattle.initialization_check.{specs.declared.RelocRegions.RelocRegions, specs.Record.{HoldsRegions, stored}, proofs.RecordLaws.{Room, Lent, lent-stored, holds-none, rows-none, holds-stored, rows-stored, holds-clashes}}
+use Rattle.sheet_headers.specs.Headers.{sheetHeaders}
 use Rattle.platform_accept.specs.Accepted.{HoldsCca}
+use Rattle.initialization_row.specs.Row.{InOrder}
 use Rattle.initialization_accept.specs.Accepted.{InitializationsAccepted}
 
 -- ---- the rules

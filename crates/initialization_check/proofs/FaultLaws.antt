@@ -1,30 +1,13 @@
 -- What is wrong with an initialization header, kind by kind.
 -- Assumes nothing.
-use mathlib.Core.Path.{_≡_, refl, sym, ap}
-use mathlib.Core.Bool.{Bool, true, false, not, cond, false≢true}
-use mathlib.Core.Option.{none, some}
-use Prim.Native.Nat.{ℕ, _+_, _≤_}
-use lib.Dec.{eqb}
-use borrow.Author.Tests.{ltb-false}
-use Rattle.rows.specs.Rows.{Rows, any}
-use Rattle.igvm_defs.specs.declared.Arch.{Arch}
-use Rattle.igvm_defs.specs.declared.Fault.{Fault}
-use Rattle.igvm_defs.specs.Refusals.{fault, noFault, refuse, isFault, orFault}
-use Rattle.addresses.specs.Addresses.{endsBeyond}
-use Rattle.masks.specs.Masks.{individualMasks, firstMask}
-use Rattle.masks.proofs.MaskLaws.{first-mask-same}
+use Rattle.rows.{proofs.Kit.{_≡_, refl, sym, ap, Bool, true, false, not, cond, false≢true, none, some, ℕ, _+_, _≤_, eqb, ltb-false}, specs.Rows.{Rows, any}}
+use Rattle.igvm_defs.{specs.declared.Arch.Arch, specs.declared.Fault.Fault, specs.Refusals.{fault, noFault, refuse, isFault, orFault}}
 use Rattle.platform_header.specs.declared.IgvmPlatformHeader.{IgvmPlatformHeader}
-use Rattle.platform_check.specs.declared.Platforms.{Platforms}
-use Rattle.rules.specs.Platforms.{lastIsCca}
-use Rattle.platform_check.specs.Record.{HoldsPlatforms, lastTypeIsCca}
-use Rattle.platform_check.proofs.RecordLaws.{holds-cca}
-use Rattle.initialization_header.specs.declared.IgvmInitializationHeader.{IgvmInitializationHeader}
-use Rattle.initialization_header.specs.declared.IgvmInitializationHeader.the-variants.{GuestPolicy, CcaPolicy, RelocatableRegion, PageTableRelocationRegion}
-use Rattle.initialization_header.specs.Fields.{kindNumber}
-use Rattle.rules.specs.declared.Region.{Region}
-use Rattle.rules.specs.Regions.{regionOf, regionPasses, tablesShare, overlap}
-use Rattle.rules.specs.Initializations.{validateInitialization, wrongArch, bitWithoutCca, withoutCca, initializationFault}
-use Rattle.rules.proofs.FaultLaws.{refuse-none, or-none}
+use Rattle.initialization_header.{specs.declared.IgvmInitializationHeader.IgvmInitializationHeader, specs.declared.IgvmInitializationHeader.the-variants.{GuestPolicy, CcaPolicy, RelocatableRegion, PageTableRelocationRegion}, specs.Fields.kindNumber}
+use Rattle.masks.{specs.Masks.{individualMasks, firstMask}, proofs.MaskLaws.first-mask-same}
+use Rattle.addresses.specs.Addresses.{endsBeyond}
+use Rattle.rules.{specs.Platforms.lastIsCca, specs.declared.Region.Region, specs.Regions.{regionOf, regionPasses, tablesShare, overlap}, specs.Initializations.{validateInitialization, wrongArch, bitWithoutCca, withoutCca, initializationFault}, proofs.FaultLaws.{refuse-none, or-none}}
+use Rattle.platform_check.{specs.declared.Platforms.Platforms, specs.Record.{HoldsPlatforms, lastTypeIsCca}, proofs.RecordLaws.holds-cca}
 use Rattle.initialization_check.specs.Record.{policyFault, regionFault}
 
 -- a header of kind 16 or 17

@@ -1,24 +1,9 @@
 -- The record of regions answers for the rows that it holds.
 -- Assumes nothing.
-use mathlib.Core.Path.{_≡_, refl, sym, ap, ap₂, _∙_}
-use mathlib.Core.Bool.{Bool, true, false, cond, _||_, or-false}
-use mathlib.Core.List.{List}
-use mathlib.Core.Option.{none, some}
-use Prim.Native.Nat.{ℕ, _+_, _<_, _≤_}
-use native.Mathlib.Nat.{add-zero}
-use native.Mathlib.Omega.{arith}
-use lib.Dec.{ltb}
-use lib.ListN.{length, getD, set, length-set}
-use lib.Seq.{getD-set-same, getD-set-other}
-use borrow.Author.Tests.{ltb-true, ltb-false}
-use Rattle.rows.specs.Below.{anyBelow, sumBelow, countBelow}
-use Rattle.rows.specs.Rows.{Rows, before}
-use Rattle.rows.proofs.BelowLaws.{any-more, any-same-tests, count-more, count-same-tests}
+use Rattle.rows.{proofs.Kit.{_≡_, refl, sym, ap, ap₂, _∙_, Bool, true, false, cond, _||_, or-false, List, none, some, ℕ, _+_, _<_, _≤_, add-zero, arith, ltb, length, getD, set, length-set, getD-set-same, getD-set-other, ltb-true, ltb-false}, specs.Below.{anyBelow, sumBelow, countBelow}, specs.Rows.{Rows, before}, proofs.BelowLaws.{any-more, any-same-tests, count-more, count-same-tests}}
 use Rattle.initialization_header.specs.declared.IgvmInitializationHeader.{IgvmInitializationHeader}
-use Rattle.rules.specs.declared.Region.{Region}
-use Rattle.initialization_check.specs.declared.RelocRegions.{RelocRegions}
-use Rattle.rules.specs.Regions.{regionOf, regionPasses, tablesShare, overlap}
-use Rattle.initialization_check.specs.Record.{entry, anyRegion, HoldsRegions, HoldsRows, HoldsClashes, stored}
+use Rattle.rules.{specs.declared.Region.Region, specs.Regions.{regionOf, regionPasses, tablesShare, overlap}}
+use Rattle.initialization_check.specs.{declared.RelocRegions.RelocRegions, Record.{entry, anyRegion, HoldsRegions, HoldsRows, HoldsClashes, stored}}
 
 -- no region, and no row
 pub holds-none : (r : RelocRegions) (xs : Rows IgvmInitializationHeader) → r .count ≡ 0 → HoldsRegions r (before 0 xs)

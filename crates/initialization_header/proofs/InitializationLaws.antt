@@ -1,22 +1,11 @@
 -- Laws of initialization headers.
 -- Assumes nothing.
-use mathlib.Core.Path.{_≡_, refl}
-use mathlib.Core.Bool.{false, not}
-use mathlib.Core.List.{List}
-use Prim.Native.Nat.{ℕ, _+_}
-use lib.Dec.{T, eqb}
 use mir.Val.{hasKey}
 use types.Run.{OneOf}
-use denote.Enum.Declared.{tagOf}
+use Rattle.rows.proofs.Kit.{_≡_, refl, false, not, List, ℕ, _+_, T, eqb, tagOf}
 use Rattle.le.proofs.LeLaws.{le-read, byte-read}
-use Rattle.igvm_defs.specs.Kinds.{initializationList, kindOf, spans, fields}
-use Rattle.igvm_defs.proofs.KindLaws.{Local, LocalAt, initialization-kind}
-use Rattle.igvm_defs.proofs.Runs.{each, _⨾_}
-use Rattle.igvm_defs.proofs.Tags.{not-number}
-use Rattle.initialization_header.specs.declared.IgvmInitializationHeader.{IgvmInitializationHeader}
-use Rattle.initialization_header.specs.declared.IgvmInitializationHeader.the-variants.{GuestPolicy, CcaPolicy, RelocatableRegion, PageTableRelocationRegion}
-use Rattle.initialization_header.specs.Initializations.{initializationOf}
-use Rattle.initialization_header.specs.Fields.{kindNumber}
+use Rattle.igvm_defs.{specs.Kinds.{initializationList, kindOf, spans, fields}, proofs.KindLaws.{Local, LocalAt, initialization-kind}, proofs.Runs.{each, _⨾_}, proofs.Tags.not-number}
+use Rattle.initialization_header.specs.{declared.IgvmInitializationHeader.IgvmInitializationHeader, declared.IgvmInitializationHeader.the-variants.{GuestPolicy, CcaPolicy, RelocatableRegion, PageTableRelocationRegion}, Initializations.initializationOf, Fields.kindNumber}
 use Rattle.initialization_header.proofs.IgvmInitializationHeader.{the-type}
 
 -- a header says no more than the kind, the body's length and its fields

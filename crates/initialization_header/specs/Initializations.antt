@@ -1,6 +1,6 @@
 -- The header that an initialization row's kind and body say.
 use Prim.Native.Nat.{ℕ, _/_, _%_}
-use mathlib.Core.Bool.{Bool, cond}
+use mathlib.Core.Bool.{cond}
 use mathlib.Core.List.{List}
 use lib.Dec.{eqb}
 use Rattle.le.specs.Le.{byteAt, leAt}

@@ -1,30 +1,12 @@
 -- The loop over the initialization rows of a readable sheet: what holds at its head, and how a row's region leads to the next turn.
 -- Assumes nothing.
-use mathlib.Core.Path.{_≡_, sym, _∙_}
-use mathlib.Core.Bool.{Bool, cond}
-use mathlib.Core.List.{List}
-use mathlib.Core.Option.{none, some}
-use Prim.Native.Nat.{ℕ, _+_, _≤_, _<_}
-use native.Mathlib.Nat.{add-zero, add-assoc}
-use native.Mathlib.Omega.{arith}
-use lib.ListN.{length, set}
-use Rattle.rows.specs.Rows.{before}
+use Rattle.rows.{proofs.Kit.{_≡_, sym, _∙_, Bool, cond, List, none, some, ℕ, _+_, _≤_, _<_, add-zero, add-assoc, arith, length, set}, specs.Rows.before}
 use Rattle.igvm_defs.specs.Kinds.{kindOf, initializationList}
-use Rattle.sheet.specs.declared.Cursor.{Cursor}
-use Rattle.sheet.specs.Head.{limits, headOf}
-use Rattle.sheet.specs.Table.{rowKind, bodyOf}
-use Rattle.sheet.specs.Read.{Readable}
-use Rattle.sheet.specs.Walk.{cursorAt, AtRow}
-use Rattle.sheet.proofs.Readable.{readable-bounds, at-row, initialization-row}
-use Rattle.initialization_header.specs.declared.IgvmInitializationHeader.{IgvmInitializationHeader}
-use Rattle.initialization_header.specs.Initializations.{initializationOf}
-use Rattle.rules.specs.declared.Region.{Region}
-use Rattle.rules.specs.Regions.{regionOf}
-use Rattle.sheet_headers.specs.Headers.{sheetHeaders}
-use Rattle.sheet_headers.proofs.HeaderLaws.{sheet-counts}
-use Rattle.initialization_check.specs.declared.RelocRegions.{RelocRegions}
-use Rattle.initialization_check.specs.Record.{HoldsRegions, HoldsRows, stored}
-use Rattle.initialization_check.proofs.RecordLaws.{Room, Lent, lent-stored, holds-none, rows-none, holds-stored, rows-stored}
+use Rattle.sheet.{specs.declared.Cursor.Cursor, specs.Head.{limits, headOf}, specs.Table.{rowKind, bodyOf}, specs.Read.Readable, specs.Walk.{cursorAt, AtRow}, proofs.Readable.{readable-bounds, at-row, initialization-row}}
+use Rattle.initialization_header.{specs.declared.IgvmInitializationHeader.IgvmInitializationHeader, specs.Initializations.initializationOf}
+use Rattle.rules.{specs.declared.Region.Region, specs.Regions.regionOf}
+use Rattle.initialization_check.{specs.declared.RelocRegions.RelocRegions, specs.Record.{HoldsRegions, HoldsRows, stored}, proofs.RecordLaws.{Room, Lent, lent-stored, holds-none, rows-none, holds-stored, rows-stored}}
+use Rattle.sheet_headers.{specs.Headers.sheetHeaders, proofs.HeaderLaws.sheet-counts}
 
 -- at the head of the loop: the cursor stands at row i of n initialization rows, which follow `first` others, and the record has the regions of the rows
 -- before it, each with its row

@@ -1,17 +1,7 @@
 -- Laws of little-endian numbers: reads within the bytes that two lists share, and the bound of a number.
 -- Assumes nothing.
-use mathlib.Core.Path.{_≡_, _∙_, ap, sym}
-use mathlib.Core.Bool.{true}
-use mathlib.Core.List.{List}
-use Prim.Native.Nat.{ℕ, zero, suc, _+_, _*_, _^_, _<_, _≤_}
-use native.Mathlib.Nat.{pow-suc, mul-le-mul-left}
-use native.Mathlib.Omega.{arith}
-use lib.Dec.{leb, ltb}
-use lib.ListN.{take}
-use lib.Seq.{getD-take}
-use borrow.Author.Tests.{leb-true, ltb-true}
-use Rattle.rows.specs.Below.{sumBelow}
-use Rattle.rows.proofs.BelowLaws.{sum-cong}
+use native.Mathlib.Nat.{mul-le-mul-left}
+use Rattle.rows.{proofs.Kit.{_≡_, _∙_, ap, sym, true, List, ℕ, zero, suc, _+_, _*_, _^_, _<_, _≤_, pow-suc, arith, leb, ltb, take, getD-take, leb-true, ltb-true}, specs.Below.sumBelow, proofs.BelowLaws.sum-cong}
 use Rattle.le.specs.Le.{byteAt, leAt}
 
 -- ---- two lists that agree on their first m bytes

@@ -1,19 +1,8 @@
 -- Laws of lent bytes. A store past the end changes nothing, so only laws that read a byte ask for room.
 -- Assumes nothing.
-use Prim.Native.Nat.{ℕ, zero, suc, _+_, _-_, _*_, _/_, _%_, _^_, _≤_, _<_}
-use native.Mathlib.Nat.{add-zero, zero-add, not-suc-le-zero, le-of-suc-le-suc, pow-succ', mul-comm, mod-eq-of-lt}
-use native.Mathlib.Decide.{decLt}
-use native.Mathlib.Omega.{arith}
-use mathlib.Core.Path.{_≡_, refl, sym, ap, _∙_}
-use mathlib.Core.Bool.{Bool, true, cond, _&&_, and-false}
-use mathlib.Core.List.{List, [], _∷_}
+use native.Mathlib.Nat.{mul-comm, mod-eq-of-lt}
 use lib.Arith.{mod-mul}
-use lib.Dec.{eqb, leb, ltb}
-use lib.ListN.{length, getD, set, List·getD-eq-default}
-use borrow.Author.Tests.{eqb-true, leb-true, ltb-true, eq-eqb, ne-eqb, le-leb, lt-leb, lt-ltb, le-ltb}
-use Rattle.rows.specs.Below.{sumBelow}
-use Rattle.rows.proofs.Bools.{same-test, and-parts, cond-same}
-use Rattle.rows.proofs.BelowLaws.{sum-cong}
+use Rattle.rows.{proofs.Kit.{ℕ, zero, suc, _+_, _-_, _*_, _/_, _%_, _^_, _≤_, _<_, add-zero, zero-add, not-suc-le-zero, le-of-suc-le-suc, pow-succ', decLt, arith, _≡_, refl, sym, ap, _∙_, Bool, true, cond, _&&_, and-false, List, [], _∷_, eqb, leb, ltb, length, getD, set, List·getD-eq-default, eqb-true, leb-true, ltb-true, eq-eqb, ne-eqb, le-leb, lt-leb, lt-ltb, le-ltb}, specs.Below.sumBelow, proofs.Bools.{same-test, and-parts, cond-same}, proofs.BelowLaws.sum-cong}
 use Rattle.le.specs.Le.{byteAt, leAt, byteOf}
 use Rattle.lent.specs.Lent.{eachFrom, each, bytesPut, wordPut, rowPut, rowsPut}
 

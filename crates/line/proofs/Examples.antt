@@ -1,7 +1,6 @@
 -- Two lines, by computing.
 -- Assumes nothing.
-use mathlib.Core.Path.{_≡_, refl}
-use mathlib.Core.List.{[], _∷_}
+use Rattle.rows.proofs.Kit.{_≡_, refl, [], _∷_}
 use Rattle.igvm_defs.specs.Refusals.{refusal, noRefusal, isRefusal}
 use Rattle.line.specs.Line.{digitsIn, acceptedLine, refusedLine, lineOf}
 

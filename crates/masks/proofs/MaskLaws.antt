@@ -1,27 +1,11 @@
 -- Laws of masks.
 -- Assumes nothing.
-use mathlib.Core.Path.{_≡_, refl, sym, ap, _∙_}
-use mathlib.Core.Bool.{Bool, true, false, cond, not, _&&_, _||_, false≢true}
-use mathlib.Core.List.{List, [], _∷_, _++_}
-use mathlib.Core.Logic.{_≢_, _↔_, _⊎_, inl, inr}
-use mathlib.Core.Option.{Option, none, some}
-use Prim.Native.Nat.{ℕ, zero, suc, _+_, _-_, _*_, _/_, _%_, _^_, _≤_, _<_, min, max}
-use native.Mathlib.Nat.{two-pow-succ, pow-succ', add-sub-cancel, zero-mul, one-mul, div-div-eq-div-mul, zero-div, div-self, eq-zero-or-pos}
-use native.Mathlib.Decide.{decLt}
-use native.Mathlib.Numerals.{add-one, one-add}
-use native.Mathlib.Omega.{arith}
-use lib.Arith.{bin-ind}
-use lib.Bits.{bitAnd, bitOr, and-comm, and-self, and-zero-r, and-step, or-step, and-le-l, and-le-r, or-add-and, and-shr, and-high}
-use lib.Count as Count
-use lib.Dec.{eqb}
-use lib.ListN.{length, take, getD}
-use lib.Pow.{pow-pos, shl-exact}
-use lib.Seq.{take-suc, take-add}
-use borrow.Author.Tests.{eqb-true, eqb-false, eq-eqb, ne-eqb, not-true}
-use Rattle.rows.specs.Below.{orElse, firstBelow}
-use Rattle.rows.proofs.Bools.{not-both, eqb-same, cond-map}
-use Rattle.rows.proofs.BelowLaws.{first-none}
+use Prim.Native.Nat.{min, max}
+use native.{Mathlib.Nat.{two-pow-succ, add-sub-cancel, zero-mul, one-mul, div-div-eq-div-mul, zero-div, div-self, eq-zero-or-pos}, Mathlib.Numerals.one-add}
+use lib.{Arith.bin-ind, Bits.{and-comm, and-self, and-zero-r, or-step, and-le-r, or-add-and, and-high}, Pow.{pow-pos, shl-exact}, Seq.take-add}
+use Rattle.rows.{proofs.Kit.{_≡_, refl, sym, ap, _∙_, Bool, true, false, cond, not, _&&_, _||_, false≢true, List, [], _∷_, _++_, _≢_, _↔_, _⊎_, inl, inr, Option, none, some, ℕ, zero, suc, _+_, _-_, _*_, _/_, _%_, _^_, _≤_, _<_, pow-succ', decLt, add-one, arith, bitAnd, bitOr, and-step, and-shr, eqb, length, take, getD, take-suc, eqb-true, eqb-false, eq-eqb, ne-eqb, not-true}, specs.Below.{orElse, firstBelow}, proofs.Bools.{not-both, eqb-same, cond-map}, proofs.BelowLaws.first-none}
 use Rattle.masks.specs.Masks.{shares, matches, isOneBit, hasBit, bitsBelow, firstMask}
+use lib.Count as Count
 
 -- ---- shares
 

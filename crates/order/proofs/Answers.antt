@@ -1,28 +1,12 @@
 -- What the queries answer of two accepted sheets that have as many regions of a mask, the same page table and the same region.
 -- Assumes nothing.
-use mathlib.Core.Path.{_≡_, refl, ap}
-use mathlib.Core.Bool.{Bool, true, false, cond}
-use mathlib.Core.List.{List}
-use mathlib.Core.Logic.{_≢_}
-use mathlib.Core.Option.{Option, none, some}
-use Prim.Native.Nat.{ℕ, _+_, _*_, _/_, _<_, _≤_}
-use native.Mathlib.Omega.{arith}
-use lib.Dec.{eqb, ltb}
-use lib.ListN.{length}
-use borrow.Author.Tests.{lt-ltb, ltb-false, eqb-false}
-use Rattle.rows.proofs.Bools.{cond-same}
+use Rattle.rows.{proofs.Kit.{_≡_, refl, ap, Bool, true, false, cond, List, _≢_, Option, none, some, ℕ, _+_, _*_, _/_, _<_, _≤_, arith, eqb, ltb, length, lt-ltb, ltb-false, eqb-false}, proofs.Bools.cond-same}
 use Rattle.le.specs.Le.{leAt}
-use Rattle.igvm_defs.specs.declared.Refusal.{Refusal}
-use Rattle.igvm_defs.specs.Refusals.{noFault, isRefusal, inRow}
-use Rattle.igvm_defs.proofs.RefusalLaws.{row-refusal, orElse-later}
+use Rattle.igvm_defs.{specs.declared.Refusal.Refusal, specs.Refusals.{noFault, isRefusal, inRow}, proofs.RefusalLaws.{row-refusal, orElse-later}}
 use Rattle.sheet.specs.Head.{Limits}
-use Rattle.rules.specs.declared.IgvmRelocatableRegion.{IgvmRelocatableRegion}
-use Rattle.rules.specs.declared.PageTableRegion.{PageTableRegion}
-use Rattle.rules.specs.Relocations.{regionCount, regionAt, pageTableAt}
-use Rattle.rules.proofs.FaultLaws.{refuse-none, else-none}
+use Rattle.rules.{specs.declared.IgvmRelocatableRegion.IgvmRelocatableRegion, specs.declared.PageTableRegion.PageTableRegion, specs.Relocations.{regionCount, regionAt, pageTableAt}, proofs.FaultLaws.{refuse-none, else-none}}
 use Rattle.lent.proofs.LentLaws.{same-words}
-use Rattle.answers.specs.Verdict.{verdictRefusal}
-use Rattle.answers.specs.Relocations.{sheetInitializations, maskFault, wordsFault, relocationsRefusal, foundOf, relocationsOf, regionWords, wordsAfter, regionFault, checkRefusal, checkOf}
+use Rattle.answers.{specs.Verdict.verdictRefusal, specs.Relocations.{sheetInitializations, maskFault, wordsFault, relocationsRefusal, foundOf, relocationsOf, regionWords, wordsAfter, regionFault, checkRefusal, checkOf}}
 use Rattle.order.specs.Demand.{Accepted}
 
 -- how many regions the mask has

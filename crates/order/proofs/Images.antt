@@ -1,10 +1,6 @@
 -- Sheets as bytes, built of rows; and two pairings of rows. For the examples.
 -- Assumes nothing.
-use mathlib.Core.Path.{_≡_, refl}
-use mathlib.Core.List.{List, [], _∷_, _++_}
-use Prim.Native.Nat.{ℕ, zero, suc, _+_, _/_, _%_, _<_}
-use native.Mathlib.Omega.{arith}
-use lib.ListN.{length}
+use Rattle.rows.proofs.Kit.{_≡_, refl, List, [], _∷_, _++_, ℕ, zero, suc, _+_, _/_, _%_, _<_, arith, length}
 use Rattle.igvm_defs.proofs.Runs.{All, each}
 use Rattle.order.specs.Reordered.{Alike, PairedRows}
 

@@ -1,27 +1,16 @@
 -- The headers of two sheets, one a reordering of the other, pair off within each list.
 -- Assumes nothing.
-use mathlib.Core.Path.{_≡_, refl, _∙_, ap, sym}
-use mathlib.Core.List.{List}
-use Prim.Native.Nat.{ℕ, _+_, _<_, _≤_}
-use native.Mathlib.Omega.{arith}
-use Rattle.rows.specs.Paired.{Paired, Free}
-use Rattle.igvm_defs.specs.Kinds.{platformList, initializationList, directiveList, kindOf}
-use Rattle.igvm_defs.proofs.KindLaws.{Local}
-use Rattle.sheet.specs.Head.{Limits, headOf, rowCount}
-use Rattle.sheet.specs.Table.{rowKind, bodyOf, headersOf}
-use Rattle.sheet.specs.Read.{Readable}
-use Rattle.sheet.proofs.Readable.{readable-length, platform-row, initialization-row, directive-row}
-use Rattle.platform_header.specs.Platforms.{platformOf}
-use Rattle.platform_header.proofs.PlatformLaws.{platform-local}
-use Rattle.initialization_header.specs.Initializations.{initializationOf}
-use Rattle.initialization_header.proofs.InitializationLaws.{initialization-local}
-use Rattle.directive_header.specs.Directives.{directiveOf}
-use Rattle.directive_header.proofs.DirectiveLaws.{directive-local, area-directive}
-use Rattle.rules.specs.Reordered as rules
+use Rattle.rows.{proofs.Kit.{_≡_, refl, _∙_, ap, sym, List, ℕ, _+_, _<_, _≤_, arith}, specs.Paired.{Paired, Free}}
+use Rattle.igvm_defs.{specs.Kinds.{platformList, initializationList, directiveList, kindOf}, proofs.KindLaws.Local}
+use Rattle.sheet.{specs.Head.{Limits, headOf, rowCount}, specs.Table.{rowKind, bodyOf, headersOf}, specs.Read.Readable, proofs.Readable.{readable-length, platform-row, initialization-row, directive-row}}
+use Rattle.platform_header.{specs.Platforms.platformOf, proofs.PlatformLaws.platform-local}
+use Rattle.initialization_header.{specs.Initializations.initializationOf, proofs.InitializationLaws.initialization-local}
+use Rattle.directive_header.{specs.Directives.directiveOf, proofs.DirectiveLaws.{directive-local, area-directive}}
 use Rattle.rules.specs.Reordered.{SameMask, SameArea}
 use Rattle.sheet_headers.specs.Headers.{sheetHeaders}
 use Rattle.order.specs.Reordered.{Alike, PairedRows, Reordered}
 use Rattle.order.proofs.ReadableToo.{heads, readable-too}
+use Rattle.rules.specs.Reordered as rules
 
 -- rows alike have one header
 pub header-same : {H : Type 0} (list : ℕ) (decode : ℕ → List ℕ → H) → Local list decode → (l : Limits) (a b : List ℕ) → Readable l a → Readable l b

@@ -1,40 +1,21 @@
 -- Demand 3 with a condition left out is false: with directives naming one area free to move, or the inserts among them alone, with platforms of one
 -- mask free to move, and with bytes left over. Each by two sheets, the first accepted and the second refused.
 -- Assumes nothing.
-use mathlib.Core.Path.{_≡_, refl}
-use mathlib.Core.Bool.{true≢false}
-use mathlib.Core.List.{List, [], _∷_, _++_}
-use mathlib.Core.Logic.{_≢_}
-use Prim.Native.Nat.{ℕ, zero, suc, _+_, _<_}
-use native.Mathlib.Omega.{arith}
-use lib.ListN.{length, take}
 use lib.Count.{ones, onesIn}
-use Rattle.rows.specs.Below.{anyBelow, firstBelow, lastBelow, sumBelow}
-use Rattle.rows.specs.Paired.{Free}
+use Rattle.rows.{proofs.Kit.{_≡_, refl, true≢false, List, [], _∷_, _++_, _≢_, ℕ, zero, suc, _+_, _<_, arith, length, take}, specs.Below.{anyBelow, firstBelow, lastBelow, sumBelow}, specs.Paired.Free}
 use Rattle.le.specs.Le.{leAt}
-use Rattle.igvm_defs.specs.Refusals.{refusal, isFault, isRefusal, inRow, orElse, firstFault}
-use Rattle.igvm_defs.specs.Kinds.{spans, kindOf, fields, lengthOk}
-use Rattle.igvm_defs.specs.Platforms.{platformTypes, isPlatformType, platformTypeOf}
-use Rattle.igvm_defs.proofs.Runs.{_⨾_}
-use Rattle.sheet.specs.Head.{limits, headOf, rowCount, layoutOk, withinLimits, startFault, revisionOf, pageSizeFault}
-use Rattle.sheet.specs.Table.{rowKind, rowLength, offsetOf, bodyOf}
-use Rattle.sheet.specs.Read.{listAt, codesOk, rowFault, endFault, rowsRefusal, readRefusal, Readable, sheetRefusal}
+use Rattle.igvm_defs.{specs.Refusals.{refusal, isFault, isRefusal, inRow, orElse, firstFault}, specs.Kinds.{spans, kindOf, fields, lengthOk}, specs.Platforms.{platformTypes, isPlatformType, platformTypeOf}, proofs.Runs._⨾_}
+use Rattle.sheet.{specs.Head.{limits, headOf, rowCount, layoutOk, withinLimits, startFault, revisionOf, pageSizeFault}, specs.Table.{rowKind, rowLength, offsetOf, bodyOf}, specs.Read.{listAt, codesOk, rowFault, endFault, rowsRefusal, readRefusal, Readable, sheetRefusal}}
 use Rattle.platform_header.specs.Platforms.{platformOf}
 use Rattle.initialization_header.specs.Initializations.{initializationOf}
 use Rattle.directive_header.specs.Directives.{directiveOf}
 use Rattle.masks.specs.Masks.{shares, isOneBit, hasBit, bitsBelow, firstMask}
 use Rattle.addresses.specs.Addresses.{isMultiple}
-use Rattle.rules.specs.Regions.{regionPasses}
-use Rattle.rules.specs.Platforms.{validatePlatform, sameType, platformFault, lastIsCca}
-use Rattle.rules.specs.Initializations.{bitWithoutCca, initializationFault}
-use Rattle.rules.specs.Directives.{wrongArch, allocates, inserts, isAllocated, badArea, directiveFault}
-use Rattle.rules.specs.Verdict.{noPlatform, noMatchingVpContext, platformsRefusal, initializationsRefusal, directivesRefusal, headersRefusal}
+use Rattle.rules.{specs.Regions.regionPasses, specs.Platforms.{validatePlatform, sameType, platformFault, lastIsCca}, specs.Initializations.{bitWithoutCca, initializationFault}, specs.Directives.{wrongArch, allocates, inserts, isAllocated, badArea, directiveFault}, specs.Verdict.{noPlatform, noMatchingVpContext, platformsRefusal, initializationsRefusal, directivesRefusal, headersRefusal}}
 use Rattle.sheet_headers.specs.Headers.{sheetHeaders}
 use Rattle.answers.specs.Verdict.{verdictRefusal}
-use Rattle.order.specs.Reordered.{PairedRows, OneMask, OneArea, Reordered}
-use Rattle.order.specs.Demand.{Accepted}
-use Rattle.order.proofs.Images.{sheetOf, platform, ccaPolicy, parameterArea, vpCount, parameterInsert, swap, unmoved, exchanged}
-use Rattle.order.proofs.Theorem.{accepted-readable, demand-3}
+use Rattle.order.specs.{Reordered.{PairedRows, OneMask, OneArea, Reordered}, Demand.Accepted}
+use Rattle.order.proofs.{Images.{sheetOf, platform, ccaPolicy, parameterArea, vpCount, parameterInsert, swap, unmoved, exchanged}, Theorem.{accepted-readable, demand-3}}
 
 -- ---- the sheets
 

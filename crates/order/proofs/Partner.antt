@@ -1,17 +1,7 @@
 -- Each row of b has a partner in a, of the same list; and the bodies of both take as many bytes.
 -- Assumes nothing.
-use mathlib.Core.Path.{_≡_, _∙_, ap, sym, subst}
-use mathlib.Core.List.{List}
-use Prim.Native.Nat.{ℕ, _+_, _-_, _<_, _≤_}
-use native.Mathlib.Nat.{zero-add, le-antisymm, le-of-eq}
-use native.Mathlib.Decide.{decLt}
-use native.Mathlib.Omega.{arith}
-use Rattle.rows.specs.Below.{sumBelow}
-use Rattle.rows.proofs.BelowLaws.{sum-le, sum-split}
-use Rattle.sheet.specs.Head.{headOf, rowCount}
-use Rattle.sheet.specs.Table.{rowLength}
-use Rattle.sheet.specs.Read.{listAt}
-use Rattle.sheet.proofs.Readable.{platform-list, initialization-list, directive-list}
+use Rattle.rows.{proofs.Kit.{_≡_, _∙_, ap, sym, subst, List, ℕ, _+_, _-_, _<_, _≤_, zero-add, le-antisymm, le-of-eq, decLt, arith}, specs.Below.sumBelow, proofs.BelowLaws.{sum-le, sum-split}}
+use Rattle.sheet.{specs.Head.{headOf, rowCount}, specs.Table.rowLength, specs.Read.listAt, proofs.Readable.{platform-list, initialization-list, directive-list}}
 use Rattle.order.specs.Reordered.{Alike, PairedRows, Reordered}
 
 -- ---- one list

@@ -1,19 +1,9 @@
 -- A sheet reordered is readable where the first is.
 -- Assumes nothing.
-use mathlib.Core.Path.{_≡_}
-use mathlib.Core.List.{List}
-use Prim.Native.Nat.{ℕ, _+_, _<_, _≤_}
-use native.Mathlib.Omega.{arith}
-use lib.ListN.{length}
-use Rattle.rows.specs.Below.{sumBelow}
-use Rattle.rows.proofs.BelowLaws.{sum-part}
-use Rattle.sheet.specs.Head.{Limits, headOf, rowCount, bodiesAt}
-use Rattle.sheet.specs.Table.{rowKind, rowLength, offsetOf, bodyOf}
-use Rattle.sheet.specs.Read.{Readable}
-use Rattle.sheet.proofs.Readable.{Started, RowOk, readable-says, readable-reads, readable-row, readable-end}
+use Rattle.rows.{proofs.Kit.{_≡_, List, ℕ, _+_, _<_, _≤_, arith, length}, specs.Below.sumBelow, proofs.BelowLaws.sum-part}
+use Rattle.sheet.{specs.Head.{Limits, headOf, rowCount, bodiesAt}, specs.Table.{rowKind, rowLength, offsetOf, bodyOf}, specs.Read.Readable, proofs.Readable.{Started, RowOk, readable-says, readable-reads, readable-row, readable-end}}
 use Rattle.order.specs.Reordered.{Reordered}
-use Rattle.order.proofs.Same.{head-same, codes-same}
-use Rattle.order.proofs.Partner.{partner, bodies-same}
+use Rattle.order.proofs.{Same.{head-same, codes-same}, Partner.{partner, bodies-same}}
 
 -- row k ends no later than the last row
 row-end : (s : List ℕ) (k : ℕ) → k < rowCount (headOf s) → offsetOf s k + rowLength s k ≤ offsetOf s (rowCount (headOf s))

@@ -1,17 +1,9 @@
 -- What two byte strings with the same first bytes have in common: the head of a sheet, and whether a body's codes are in range.
 -- Assumes nothing.
-use mathlib.Core.Path.{_≡_, refl}
-use mathlib.Core.Bool.{true}
-use mathlib.Core.List.{List}
-use Prim.Native.Nat.{ℕ}
-use lib.Dec.{eqb}
-use lib.ListN.{take}
-use borrow.Author.Tests.{eqb-true}
-use Rattle.rows.proofs.Bools.{cond-same}
+use Rattle.rows.{proofs.Kit.{_≡_, refl, true, List, ℕ, eqb, take, eqb-true}, proofs.Bools.cond-same}
 use Rattle.le.proofs.LeLaws.{le-read, byte-read}
 use Rattle.igvm_defs.specs.Kinds.{fields, kindOf, spans}
-use Rattle.sheet.specs.Head.{headOf}
-use Rattle.sheet.specs.Read.{codesOk}
+use Rattle.sheet.{specs.Head.headOf, specs.Read.codesOk}
 
 pub head-same : (x y : List ℕ) → take 16 x ≡ take 16 y → headOf x ≡ headOf y
 unfolding headOf

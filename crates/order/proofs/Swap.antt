@@ -1,40 +1,20 @@
 -- A reordering that is not the identity, on bytes: the first two rows of each list are exchanged, and page, initial and opaque bytes are changed.
 -- Assumes nothing.
-use mathlib.Core.Path.{_≡_, refl}
-use mathlib.Core.Bool.{false, false≢true}
-use mathlib.Core.List.{List, [], _∷_}
-use Prim.Native.Nat.{ℕ, zero, suc, _+_, _*_, _/_, _<_}
-use native.Mathlib.Omega.{arith}
-use lib.ListN.{length}
 use lib.Count.{ones, onesIn}
-use Rattle.rows.specs.Below.{anyBelow, firstBelow, lastBelow, sumBelow}
+use Rattle.rows.{proofs.Kit.{_≡_, refl, false, false≢true, List, [], _∷_, ℕ, zero, suc, _+_, _*_, _/_, _<_, arith, length}, specs.Below.{anyBelow, firstBelow, lastBelow, sumBelow}}
 use Rattle.le.specs.Le.{leAt}
-use Rattle.igvm_defs.specs.Refusals.{isFault, isRefusal, inRow, orElse, firstFault}
-use Rattle.igvm_defs.specs.Kinds.{spans, kindOf, fields, lengthOk}
-use Rattle.igvm_defs.specs.Platforms.{platformTypes, isPlatformType, platformTypeOf}
-use Rattle.igvm_defs.specs.Vtls.{vtlOf}
-use Rattle.igvm_defs.proofs.Runs.{_⨾_}
-use Rattle.sheet.specs.Head.{limits, headOf, layoutOk, withinLimits, startFault, revisionOf, pageSizeFault}
-use Rattle.sheet.specs.Table.{rowKind, rowLength, offsetOf, bodyOf}
-use Rattle.sheet.specs.Read.{listAt, codesOk, rowFault, endFault, rowsRefusal, readRefusal, sheetRefusal}
+use Rattle.igvm_defs.{specs.Refusals.{isFault, isRefusal, inRow, orElse, firstFault}, specs.Kinds.{spans, kindOf, fields, lengthOk}, specs.Platforms.{platformTypes, isPlatformType, platformTypeOf}, specs.Vtls.vtlOf, proofs.Runs._⨾_}
+use Rattle.sheet.{specs.Head.{limits, headOf, layoutOk, withinLimits, startFault, revisionOf, pageSizeFault}, specs.Table.{rowKind, rowLength, offsetOf, bodyOf}, specs.Read.{listAt, codesOk, rowFault, endFault, rowsRefusal, readRefusal, sheetRefusal}}
 use Rattle.platform_header.specs.Platforms.{platformOf}
 use Rattle.initialization_header.specs.Initializations.{initializationOf}
-use Rattle.directive_header.specs.Directives.{directiveOf}
-use Rattle.directive_header.specs.Fields.{areaNamed}
+use Rattle.directive_header.{specs.Directives.directiveOf, specs.Fields.areaNamed}
 use Rattle.masks.specs.Masks.{shares, matches, isOneBit, hasBit, bitsBelow, firstMask}
 use Rattle.addresses.specs.Addresses.{isMultiple, meets, endsBeyond}
-use Rattle.rules.specs.Regions.{regionPasses, tablesShare, overlap}
-use Rattle.rules.specs.Platforms.{validatePlatform, sameType, platformFault, lastIsCca}
-use Rattle.rules.specs.Initializations.{validateRegion, validateTable, bitWithoutCca, initializationFault}
-use Rattle.rules.specs.Directives.{wrongArch, allocates, inserts, isAllocated, badArea, directiveFault, noContext}
-use Rattle.rules.specs.Verdict.{noPlatform, noMatchingVpContext, platformsRefusal, initializationsRefusal, directivesRefusal, headersRefusal}
+use Rattle.rules.{specs.Regions.{regionPasses, tablesShare, overlap}, specs.Platforms.{validatePlatform, sameType, platformFault, lastIsCca}, specs.Initializations.{validateRegion, validateTable, bitWithoutCca, initializationFault}, specs.Directives.{wrongArch, allocates, inserts, isAllocated, badArea, directiveFault, noContext}, specs.Verdict.{noPlatform, noMatchingVpContext, platformsRefusal, initializationsRefusal, directivesRefusal, headersRefusal}}
 use Rattle.sheet_headers.specs.Headers.{sheetHeaders}
-use Rattle.answers.specs.Verdict.{verdictRefusal}
-use Rattle.answers.specs.Relocations.{relocationsOf, wordsAfter}
-use Rattle.order.specs.Reordered.{OneMask, OneArea, Reordered}
-use Rattle.order.specs.Demand.{Accepted, SameAnswers}
-use Rattle.order.proofs.Images.{sheetOf, platform, ccaPolicy, region, pageTable, pageData, parameterArea, vpCount, aarch64Vbs, swap, exchanged}
-use Rattle.order.proofs.Theorem.{accepted-readable, demand-3}
+use Rattle.answers.{specs.Verdict.verdictRefusal, specs.Relocations.{relocationsOf, wordsAfter}}
+use Rattle.order.specs.{Reordered.{OneMask, OneArea, Reordered}, Demand.{Accepted, SameAnswers}}
+use Rattle.order.proofs.{Images.{sheetOf, platform, ccaPolicy, region, pageTable, pageData, parameterArea, vpCount, aarch64Vbs, swap, exchanged}, Theorem.{accepted-readable, demand-3}}
 
 unfoldable pub sheetA : List ℕ
 sheetA =

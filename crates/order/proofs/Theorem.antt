@@ -1,26 +1,13 @@
 -- Demand 3: the theorem.
 -- Assumes nothing.
-use mathlib.Core.Path.{_≡_, sym}
-use mathlib.Core.List.{List}
-use Prim.Native.Nat.{ℕ, _<_}
-use Rattle.sheet.specs.Head.{Limits, headOf}
-use Rattle.sheet.specs.Read.{Readable, sheetRefusal}
-use Rattle.sheet.proofs.Readable.{sheet-says}
-use Rattle.rules.specs.Accepted.{NotRefused}
-use Rattle.rules.specs.Relocations.{regionAt}
-use Rattle.rules.specs.Reordered as rules
-use Rattle.rules.proofs.FaultLaws.{else-none}
-use Rattle.rules.proofs.Order.{same-answers}
-use Rattle.rules.proofs.QueryLaws.{number-below}
-use Rattle.rules.proofs.SoundLaws.{accepted-sound}
+use Rattle.rows.proofs.Kit.{_≡_, sym, List, ℕ, _<_}
+use Rattle.sheet.{specs.Head.{Limits, headOf}, specs.Read.{Readable, sheetRefusal}, proofs.Readable.sheet-says}
+use Rattle.rules.{specs.Accepted.NotRefused, specs.Relocations.regionAt, proofs.FaultLaws.else-none, proofs.Order.same-answers, proofs.QueryLaws.number-below, proofs.SoundLaws.accepted-sound}
 use Rattle.sheet_headers.specs.Headers.{sheetHeaders}
-use Rattle.answers.specs.Verdict.{verdictRefusal}
-use Rattle.answers.specs.Relocations.{sheetInitializations}
-use Rattle.order.specs.Reordered.{Reordered}
-use Rattle.order.specs.Demand.{Accepted, IsRegion, numberIn, SameAnswers}
-use Rattle.order.proofs.ReadableToo.{heads, readable-too}
-use Rattle.order.proofs.Lists.{paired-in, headers-reordered}
-use Rattle.order.proofs.Answers.{regionsOf, list-same, words-same, check-same}
+use Rattle.answers.{specs.Verdict.verdictRefusal, specs.Relocations.sheetInitializations}
+use Rattle.order.specs.{Reordered.Reordered, Demand.{Accepted, IsRegion, numberIn, SameAnswers}}
+use Rattle.order.proofs.{ReadableToo.{heads, readable-too}, Lists.{paired-in, headers-reordered}, Answers.{regionsOf, list-same, words-same, check-same}}
+use Rattle.rules.specs.Reordered as rules
 
 pub accepted-readable : (l : Limits) (s : List ℕ) → Accepted l s → Readable l s
 unfolding verdictRefusal

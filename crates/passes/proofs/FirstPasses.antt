@@ -1,47 +1,16 @@
 -- Laws of the passes over the platform and the initialization rows: what holds at a turn of the loop, where it stops, and what it says at the end.
 -- Assumes nothing.
-use mathlib.Core.Path.{_≡_, refl, sym, _∙_}
-use mathlib.Core.Bool.{Bool, true, false, false≢true}
-use mathlib.Core.List.{List}
-use Prim.Native.Nat.{ℕ, _+_, _≤_, _<_}
-use native.Mathlib.Nat.{add-zero, zero-add, add-assoc}
-use native.Mathlib.Omega.{arith}
-use lib.Dec.{eqb}
-use lib.ListN.{length-set}
-use Rattle.rows.specs.Below.{anyBelow}
-use Rattle.rows.specs.Rows.{Rows, before}
-use Rattle.rows.proofs.BelowLaws.{any-more}
-use Rattle.igvm_defs.specs.declared.Arch.{Arch}
-use Rattle.igvm_defs.specs.declared.Fault.{Fault}
-use Rattle.igvm_defs.specs.declared.Refusal.{Refusal}
-use Rattle.igvm_defs.specs.Kinds.{kindOf, platformList, initializationList}
-use Rattle.igvm_defs.specs.Refusals.{fault, noFault, noRefusal, refuse, isFault, isRefusal, inRow, firstFault}
-use Rattle.igvm_defs.proofs.RefusalLaws.{row-refusal, orElse-first, orElse-later, fault-stop, fault-end}
-use Rattle.sheet.specs.declared.Cursor.{Cursor}
-use Rattle.sheet.specs.Head.{limits, headOf}
-use Rattle.sheet.specs.Table.{rowKind, bodyOf}
-use Rattle.sheet.specs.Read.{Readable}
-use Rattle.sheet.specs.Walk.{cursorAt, AtRow}
-use Rattle.sheet.proofs.Readable.{readable-bounds, at-row, platform-row, initialization-row}
-use Rattle.platform_header.specs.declared.IgvmPlatformHeader.{IgvmPlatformHeader}
-use Rattle.platform_header.specs.Platforms.{platformOf}
-use Rattle.initialization_header.specs.declared.IgvmInitializationHeader.{IgvmInitializationHeader}
-use Rattle.initialization_header.specs.Initializations.{initializationOf}
-use Rattle.rules.specs.Verdict.{Headers, platformFaults, initializationFaults, noPlatform, platformsRefusal, initializationsRefusal}
-use Rattle.sheet_headers.specs.Headers.{sheetHeaders}
-use Rattle.platform_check.specs.declared.Platforms.{Platforms}
-use Rattle.platform_check.specs.Record.{HoldsPlatforms, PlatformStepped}
-use Rattle.platform_check.proofs.RecordLaws.{holds-count}
-use Rattle.initialization_check.specs.declared.RelocRegions.{RelocRegions}
-use Rattle.rules.specs.declared.Region.{Region}
-use Rattle.initialization_check.specs.Record.{HoldsRegions, HoldsClashes, InitializationStepped, stored}
-use Rattle.extents.specs.declared.Reach.{Reach}
-use Rattle.extents.specs.Extents.{apartFrom, Covers}
-use Rattle.extents.proofs.ExtentLaws.{covers-more}
-use Rattle.initialization_check.proofs.RecordLaws.{holds-stored, holds-clashes}
-use Rattle.rules.specs.Regions.{overlap}
+use Rattle.rows.{proofs.Kit.{_≡_, refl, sym, _∙_, Bool, true, false, false≢true, List, ℕ, _+_, _≤_, _<_, add-zero, zero-add, add-assoc, arith, eqb, length-set}, specs.Below.anyBelow, specs.Rows.{Rows, before}, proofs.BelowLaws.any-more}
+use Rattle.igvm_defs.{specs.declared.Arch.Arch, specs.declared.Fault.Fault, specs.declared.Refusal.Refusal, specs.Kinds.{kindOf, platformList, initializationList}, specs.Refusals.{fault, noFault, noRefusal, refuse, isFault, isRefusal, inRow, firstFault}, proofs.RefusalLaws.{row-refusal, orElse-first, orElse-later, fault-stop, fault-end}}
+use Rattle.sheet.{specs.declared.Cursor.Cursor, specs.Head.{limits, headOf}, specs.Table.{rowKind, bodyOf}, specs.Read.Readable, specs.Walk.{cursorAt, AtRow}, proofs.Readable.{readable-bounds, at-row, platform-row, initialization-row}}
+use Rattle.platform_header.{specs.declared.IgvmPlatformHeader.IgvmPlatformHeader, specs.Platforms.platformOf}
+use Rattle.initialization_header.{specs.declared.IgvmInitializationHeader.IgvmInitializationHeader, specs.Initializations.initializationOf}
+use Rattle.rules.{specs.Verdict.{Headers, platformFaults, initializationFaults, noPlatform, platformsRefusal, initializationsRefusal}, specs.declared.Region.Region, specs.Regions.overlap}
+use Rattle.platform_check.{specs.declared.Platforms.Platforms, specs.Record.{HoldsPlatforms, PlatformStepped}, proofs.RecordLaws.holds-count}
+use Rattle.extents.{specs.declared.Reach.Reach, specs.Extents.{apartFrom, Covers}, proofs.ExtentLaws.covers-more}
+use Rattle.initialization_check.{specs.declared.RelocRegions.RelocRegions, specs.Record.{HoldsRegions, HoldsClashes, InitializationStepped, stored}, proofs.RecordLaws.{holds-stored, holds-clashes}}
+use Rattle.sheet_headers.{specs.Headers.sheetHeaders, proofs.HeaderLaws.sheet-counts}
 use Rattle.passes.specs.Passes.{PlatformsPassed, InitializationsPassed, Lengths}
-use Rattle.sheet_headers.proofs.HeaderLaws.{sheet-counts}
 
 -- ---- any list
 

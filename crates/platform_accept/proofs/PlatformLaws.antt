@@ -1,46 +1,12 @@
 -- Laws of the rows that are passed: a body that passes has no fault by itself, and what is kept of the rows before tells of the rest.
 -- Assumes nothing.
-use mathlib.Core.Path.{_≡_, refl, sym, ap, _∙_}
-use mathlib.Core.Bool.{Bool, true, false, cond, not, _&&_, _||_, Bool·beq}
-use mathlib.Core.List.{List}
-use mathlib.Core.Logic.{_⊎_, inl, inr}
-use mathlib.Core.Option.{Option, none, some}
-use Prim.Native.Nat.{ℕ, _+_, _^_, _≤_, _<_}
-use native.Mathlib.Nat.{zero-add}
-use native.Mathlib.Numerals.{add-one}
-use native.Mathlib.Omega.{arith}
-use lib.Bits.{bitOr}
-use lib.Dec.{eqb, leb, ltb}
-use lib.ListN.{length, take, drop, length-take, length-drop}
-use borrow.Author.Tests.{eqb-true, eqb-false, leb-true, ltb-true, lt-ltb, not-false}
-use Rattle.rows.specs.Below.{anyBelow, lastBelow}
-use Rattle.rows.specs.Rows.{Rows, any, before, rowAt}
-use Rattle.rows.proofs.Bools.{not-both, is-false, or-left, or-right, or-cases, or-false-parts, and-parts}
-use Rattle.rows.proofs.BelowLaws.{top, none-any, any-more, last-more}
-use Rattle.igvm_defs.specs.declared.Arch.{Arch}
-use Rattle.igvm_defs.specs.declared.Arch.the-variants.{X64, AArch64}
-use Rattle.igvm_defs.specs.Kinds.{kindOf, spans, lengthOk}
-use Rattle.igvm_defs.specs.Refusals.{isFault}
-use Rattle.igvm_defs.specs.Revision.{isX64}
-use Rattle.igvm_defs.specs.Platforms.{platformType, platformTypes, isPlatformType, platformTypeOf}
-use Rattle.igvm_defs.proofs.Runs.{_⨾_, each}
-use Rattle.igvm_defs.proofs.RefusalLaws.{no-fault}
-use Rattle.masks.specs.Masks.{shares, isOneBit, hasBit}
-use Rattle.masks.proofs.MaskLaws.{shares-or, one-bit-alone, bit-set}
-use Rattle.sheet.specs.declared.Cursor.{Cursor}
-use Rattle.sheet.specs.Head.{headOf}
-use Rattle.sheet.specs.Table.{rowKind, rowLength, offsetOf, bodyOf}
-use Rattle.sheet.specs.Read.{codesOk}
-use Rattle.sheet.specs.Walk.{ReadTo}
-use Rattle.sheet.proofs.Readable.{RowOk, platform-list}
-use Rattle.sheet.proofs.ReadLaws.{read-more}
-use Rattle.platform_header.specs.declared.IgvmPlatformHeader.{IgvmPlatformHeader}
-use Rattle.platform_header.specs.Platforms.{supportedPlatformOf, platformOf}
-use Rattle.rules.specs.Platforms.{validatePlatform, standsWith, sameType, isCca, lastIsCca}
-use Rattle.rules.specs.Accepted.{ownPlatformFault}
-use Rattle.rules.specs.Verdict.{platformFaults}
-use Rattle.rules.proofs.FaultLaws.{refuse-none, or-none}
-use Rattle.rules.proofs.Acceptance.{platform-says}
+use mathlib.Core.Bool.{Bool·beq}
+use Rattle.rows.{proofs.Kit.{_≡_, refl, sym, ap, _∙_, Bool, true, false, cond, not, _&&_, _||_, List, _⊎_, inl, inr, Option, none, some, ℕ, _+_, _^_, _≤_, _<_, zero-add, add-one, arith, bitOr, eqb, leb, ltb, length, take, drop, length-take, length-drop, eqb-true, eqb-false, leb-true, ltb-true, lt-ltb, not-false}, specs.Below.{anyBelow, lastBelow}, specs.Rows.{Rows, any, before, rowAt}, proofs.Bools.{not-both, is-false, or-left, or-right, or-cases, or-false-parts, and-parts}, proofs.BelowLaws.{top, none-any, any-more, last-more}}
+use Rattle.igvm_defs.{specs.declared.Arch.Arch, specs.declared.Arch.the-variants.{X64, AArch64}, specs.Kinds.{kindOf, spans, lengthOk}, specs.Refusals.isFault, specs.Revision.isX64, specs.Platforms.{platformType, platformTypes, isPlatformType, platformTypeOf}, proofs.Runs.{_⨾_, each}, proofs.RefusalLaws.no-fault}
+use Rattle.sheet.{specs.declared.Cursor.Cursor, specs.Head.headOf, specs.Table.{rowKind, rowLength, offsetOf, bodyOf}, specs.Read.codesOk, specs.Walk.ReadTo, proofs.Readable.{RowOk, platform-list}, proofs.ReadLaws.read-more}
+use Rattle.platform_header.{specs.declared.IgvmPlatformHeader.IgvmPlatformHeader, specs.Platforms.{supportedPlatformOf, platformOf}}
+use Rattle.masks.{specs.Masks.{shares, isOneBit, hasBit}, proofs.MaskLaws.{shares-or, one-bit-alone, bit-set}}
+use Rattle.rules.{specs.Platforms.{validatePlatform, standsWith, sameType, isCca, lastIsCca}, specs.Accepted.ownPlatformFault, specs.Verdict.platformFaults, proofs.FaultLaws.{refuse-none, or-none}, proofs.Acceptance.platform-says}
 use Rattle.sheet_headers.specs.Headers.{sheetHeaders}
 use Rattle.platform_accept.specs.Accepted.{HoldsCca, PlatformsAccepted}
 

@@ -1,23 +1,9 @@
 -- The record of platform rows answers for the rows that it holds.
 -- Assumes nothing.
-use mathlib.Core.Path.{_≡_, refl, sym, ap, _∙_}
-use mathlib.Core.Bool.{Bool}
-use mathlib.Core.List.{List}
-use mathlib.Core.Logic.{_⊎_, inl, inr}
-use mathlib.Core.Option.{Option, none, some}
-use Prim.Native.Nat.{ℕ, _+_, _≤_, _<_}
-use native.Mathlib.Numerals.{add-one}
-use native.Mathlib.Omega.{arith}
-use lib.Dec.{eqb}
-use lib.ListN.{length, getD, set}
-use lib.Seq.{getD-set-same, getD-set-other}
-use Rattle.rows.specs.Below.{anyBelow, lastBelow}
-use Rattle.rows.specs.Rows.{Rows, any, rowAt, before}
-use Rattle.rows.proofs.BelowLaws.{top, any-same-tests, last-same-tests, last-says}
+use Rattle.rows.{proofs.Kit.{_≡_, refl, sym, ap, _∙_, Bool, List, _⊎_, inl, inr, Option, none, some, ℕ, _+_, _≤_, _<_, add-one, arith, eqb, length, getD, set, getD-set-same, getD-set-other}, specs.Below.{anyBelow, lastBelow}, specs.Rows.{Rows, any, rowAt, before}, proofs.BelowLaws.{top, any-same-tests, last-same-tests, last-says}}
 use Rattle.platform_header.specs.declared.IgvmPlatformHeader.{IgvmPlatformHeader}
-use Rattle.platform_check.specs.declared.Platforms.{Platforms}
 use Rattle.rules.specs.Platforms.{sameType, isCca, lastIsCca}
-use Rattle.platform_check.specs.Record.{HoldsPlatforms, typeIsCca, lastTypeIsCca}
+use Rattle.platform_check.specs.{declared.Platforms.Platforms, Record.{HoldsPlatforms, typeIsCca, lastTypeIsCca}}
 
 -- the record never holds more than 16 rows
 pub holds-count : (r : Platforms) (xs : Rows IgvmPlatformHeader) → HoldsPlatforms r xs → r .count ≤ 16

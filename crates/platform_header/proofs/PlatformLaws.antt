@@ -1,8 +1,7 @@
 -- Laws of platform headers.
 -- Assumes nothing.
 use Rattle.le.proofs.LeLaws.{le-read, byte-read}
-use Rattle.igvm_defs.specs.Kinds.{platformList, kindOf, spans, fields}
-use Rattle.igvm_defs.proofs.KindLaws.{Local, platform-kind}
+use Rattle.igvm_defs.{specs.Kinds.{platformList, kindOf, spans, fields}, proofs.KindLaws.{Local, platform-kind}}
 use Rattle.platform_header.specs.Platforms.{platformOf}
 
 -- a header says no more than the kind, the body's length and its fields

@@ -1,23 +1,11 @@
 -- The row of a mask's page table, one row at a time.
 -- Assumes nothing.
-use mathlib.Core.Path.{_≡_, refl, _∙_}
-use mathlib.Core.Bool.{Bool, true, false, not, cond, _&&_}
-use mathlib.Core.List.{List}
-use mathlib.Core.Option.{none}
-use Prim.Native.Nat.{ℕ, _+_, _≤_, _<_}
-use native.Mathlib.Omega.{arith}
-use borrow.Author.Tests.{eq-eqb, ne-eqb}
-use lib.Dec.{eqb}
-use Rattle.rows.specs.Below.{nthBelow}
-use Rattle.rows.specs.Rows.{before}
-use Rattle.sheet.specs.Head.{headOf}
-use Rattle.sheet.specs.Table.{rowKind, bodyOf}
+use Rattle.rows.{proofs.Kit.{_≡_, refl, _∙_, Bool, true, false, not, cond, _&&_, List, none, ℕ, _+_, _≤_, _<_, arith, eq-eqb, ne-eqb, eqb}, specs.Below.nthBelow, specs.Rows.before}
+use Rattle.sheet.{specs.Head.headOf, specs.Table.{rowKind, bodyOf}}
 use Rattle.initialization_header.specs.Initializations.{initializationOf}
 use Rattle.rules.specs.Relocations.{isPageTable, pageTableOf, pageTableAt}
 use Rattle.answers.specs.Relocations.{sheetInitializations}
-use Rattle.regions.specs.declared.FoundTable.{FoundTable}
-use Rattle.regions.specs.Found.{foundTable}
-use Rattle.regions.proofs.FoundLaws.{table-more, table-is-found}
+use Rattle.regions.{specs.declared.FoundTable.FoundTable, specs.Found.foundTable, proofs.FoundLaws.{table-more, table-is-found}}
 
 -- the mask's page table among the first i rows
 abbrev pub tableTo : List ℕ → ℕ → ℕ → FoundTable

@@ -1,29 +1,13 @@
 -- A walk over the initialization rows: where it starts, what a turn keeps, and where it ends.
 -- Assumes nothing.
-use mathlib.Core.Path.{_≡_, refl, sym, ap, _∙_}
-use mathlib.Core.Bool.{true, cond, _&&_}
-use mathlib.Core.List.{List}
-use Prim.Native.Nat.{ℕ, _+_, _*_, _≤_, _<_}
-use native.Mathlib.Omega.{arith}
-use lib.Dec.{eqb}
-use lib.ListN.{length}
-use Rattle.rows.specs.Rows.{before}
-use Rattle.rows.specs.Below.{sumBelow}
-use Rattle.sheet.specs.declared.Cursor.{Cursor}
-use Rattle.sheet.specs.declared.SheetHead.{SheetHead}
-use Rattle.sheet.specs.Head.{limits, headOf}
-use Rattle.sheet.specs.Table.{rowKind, bodyOf}
-use Rattle.sheet.specs.Read.{Readable}
-use Rattle.sheet.specs.Walk.{cursorAt}
+use Rattle.rows.{proofs.Kit.{_≡_, refl, sym, ap, _∙_, true, cond, _&&_, List, ℕ, _+_, _*_, _≤_, _<_, arith, eqb, length}, specs.Rows.before, specs.Below.sumBelow}
+use Rattle.sheet.{specs.declared.Cursor.Cursor, specs.declared.SheetHead.SheetHead, specs.Head.{limits, headOf}, specs.Table.{rowKind, bodyOf}, specs.Read.Readable, specs.Walk.cursorAt}
 use Rattle.initialization_header.specs.Initializations.{initializationOf}
 use Rattle.rules.specs.Relocations.{isRelocatable, isPageTable, relocatableOf, regionCount}
-use Rattle.lent.specs.Lent.{rowPut, rowsPut}
-use Rattle.lent.proofs.LentLaws.{rows-none, rows-length}
+use Rattle.lent.{specs.Lent.{rowPut, rowsPut}, proofs.LentLaws.{rows-none, rows-length}}
 use Rattle.answers.specs.Relocations.{sheetInitializations, regionWords}
-use Rattle.regions.proofs.FoundLaws.{regions-more, regions-few}
-use Rattle.regions.proofs.TurnLaws.{AtInitialization, at-initialization, first-row, all-rows}
-use Rattle.region_words.proofs.WordLaws.{wordsAt, number-room, words-more}
-use Rattle.region_words.proofs.TableLaws.{TableRow, table-none, table-next}
+use Rattle.regions.{proofs.FoundLaws.{regions-more, regions-few}, proofs.TurnLaws.{AtInitialization, at-initialization, first-row, all-rows}}
+use Rattle.region_words.proofs.{WordLaws.{wordsAt, number-room, words-more}, TableLaws.{TableRow, table-none, table-next}}
 
 -- the cursor stands behind the first i rows; their regions are counted, their words stand in front, and t is the row of their page table
 pub record Walked (s : List ℕ) (given end : ℕ) (lent b : List ℕ) (c : Cursor) (t count : ℕ) : Type 0 where

@@ -1,26 +1,11 @@
 -- The words of a mask's regions, one row at a time.
 -- Assumes nothing.
-use mathlib.Core.Path.{_≡_, refl, sym, _∙_}
-use mathlib.Core.Bool.{Bool, true, false, cond, false≢true}
-use mathlib.Core.List.{List, [], _∷_}
-use Prim.Native.Nat.{ℕ, _+_, _/_, _%_, _≤_, _<_}
-use native.Mathlib.Nat.{add-zero}
-use native.Mathlib.Omega.{arith}
-use lib.Dec.{eqb}
-use Rattle.rows.specs.Rows.{Rows, before}
+use Rattle.rows.{proofs.Kit.{_≡_, refl, sym, _∙_, Bool, true, false, cond, false≢true, List, [], _∷_, ℕ, _+_, _/_, _%_, _≤_, _<_, add-zero, arith, eqb}, specs.Rows.{Rows, before}}
 use Rattle.le.specs.Le.{byteAt, leAt}
-use Rattle.igvm_defs.specs.Kinds.{kindOf, initializationList}
-use Rattle.igvm_defs.proofs.Runs.{each, _⨾_}
-use Rattle.igvm_defs.proofs.VtlLaws.{vtl-number}
-use Rattle.initialization_header.specs.declared.IgvmInitializationHeader.{IgvmInitializationHeader}
-use Rattle.initialization_header.specs.declared.IgvmInitializationHeader.the-variants.{GuestPolicy, CcaPolicy, RelocatableRegion, PageTableRelocationRegion}
-use Rattle.initialization_header.specs.Fields.{kindNumber}
-use Rattle.initialization_header.specs.Initializations.{initializationOf, relocatableRegionOf}
-use Rattle.initialization_header.proofs.InitializationLaws.{kind-initialization}
-use Rattle.rules.specs.Relocations.{isRelocatable, relocatableOf, regionCount, regionAt}
-use Rattle.rules.proofs.QueryLaws.{number-below, region-found}
-use Rattle.lent.specs.Lent.{rowPut, rowsPut}
-use Rattle.lent.proofs.LentLaws.{rows-more}
+use Rattle.igvm_defs.{specs.Kinds.{kindOf, initializationList}, proofs.Runs.{each, _⨾_}, proofs.VtlLaws.vtl-number}
+use Rattle.initialization_header.{specs.declared.IgvmInitializationHeader.IgvmInitializationHeader, specs.declared.IgvmInitializationHeader.the-variants.{GuestPolicy, CcaPolicy, RelocatableRegion, PageTableRelocationRegion}, specs.Fields.kindNumber, specs.Initializations.{initializationOf, relocatableRegionOf}, proofs.InitializationLaws.kind-initialization}
+use Rattle.rules.{specs.Relocations.{isRelocatable, relocatableOf, regionCount, regionAt}, proofs.QueryLaws.{number-below, region-found}}
+use Rattle.lent.{specs.Lent.{rowPut, rowsPut}, proofs.LentLaws.rows-more}
 use Rattle.answers.specs.Relocations.{regionWords}
 use Rattle.regions.proofs.FoundLaws.{regions-more}
 

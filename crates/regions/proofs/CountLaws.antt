@@ -1,19 +1,9 @@
 -- The regions of a mask in the arrays of an accepted file: as many as its initialization rows have.
 -- Assumes nothing.
-use mathlib.Core.Path.{_≡_, refl, sym, _∙_}
-use mathlib.Core.Bool.{Bool, false, not, _&&_, and-true, and-false}
-use mathlib.Core.List.{List}
-use Prim.Native.Nat.{ℕ}
-use lib.ListN.{getD}
-use Rattle.rows.specs.Below.{countBelow}
-use Rattle.rows.specs.Rows.{Rows}
-use Rattle.rows.proofs.BelowLaws.{count-same-tests}
+use Rattle.rows.{proofs.Kit.{_≡_, refl, _∙_, Bool, false, not, _&&_, and-true, and-false, List, ℕ, getD}, specs.Below.countBelow, specs.Rows.Rows, proofs.BelowLaws.count-same-tests}
+use Rattle.initialization_header.{specs.declared.IgvmInitializationHeader.IgvmInitializationHeader, specs.declared.IgvmInitializationHeader.the-variants.{GuestPolicy, CcaPolicy, RelocatableRegion, PageTableRelocationRegion}}
 use Rattle.masks.specs.Masks.{matches}
-use Rattle.initialization_header.specs.declared.IgvmInitializationHeader.{IgvmInitializationHeader}
-use Rattle.initialization_header.specs.declared.IgvmInitializationHeader.the-variants.{GuestPolicy, CcaPolicy, RelocatableRegion, PageTableRelocationRegion}
-use Rattle.rules.specs.declared.Region.{Region}
-use Rattle.rules.specs.Regions.{regionPasses}
-use Rattle.rules.specs.Relocations.{isRelocatable, regionCount}
+use Rattle.rules.{specs.declared.Region.Region, specs.Regions.regionPasses, specs.Relocations.{isRelocatable, regionCount}}
 use Rattle.initialization_check.specs.Record.{HoldsRows, regionsIn}
 
 -- a region of the mask is one that is no page table, and whose mask holds every bit

@@ -1,22 +1,9 @@
 -- What one row more adds to a count of rows that pass, and to the row found by its number.
 -- Assumes nothing.
-use mathlib.Core.Path.{_≡_, refl, _∙_}
-use mathlib.Core.Bool.{Bool, true, false, not, cond, _&&_}
-use mathlib.Core.Option.{Option, none, some}
-use Prim.Native.Nat.{ℕ, zero, suc, _+_, _≤_}
-use native.Mathlib.Nat.{add-zero}
-use native.Mathlib.Numerals.{add-one}
-use native.Mathlib.Omega.{arith}
-use borrow.Author.Tests.{ne-eqb}
-use lib.Dec.{eqb}
-use Rattle.rows.specs.Below.{sumBelow, nthBelow}
-use Rattle.rows.specs.Rows.{Rows, rowAt, before, countOf, nth}
-use Rattle.rows.proofs.BelowLaws.{count-more, count-le, nth-more}
-use Rattle.initialization_header.specs.declared.IgvmInitializationHeader.{IgvmInitializationHeader}
-use Rattle.initialization_header.specs.declared.IgvmInitializationHeader.the-variants.{GuestPolicy, CcaPolicy, RelocatableRegion, PageTableRelocationRegion}
+use Rattle.rows.{proofs.Kit.{_≡_, refl, _∙_, Bool, true, false, not, cond, _&&_, Option, none, some, ℕ, zero, suc, _+_, _≤_, add-zero, add-one, arith, ne-eqb, eqb}, specs.Below.{sumBelow, nthBelow}, specs.Rows.{Rows, rowAt, before, countOf, nth}, proofs.BelowLaws.{count-more, count-le, nth-more}}
+use Rattle.initialization_header.{specs.declared.IgvmInitializationHeader.IgvmInitializationHeader, specs.declared.IgvmInitializationHeader.the-variants.{GuestPolicy, CcaPolicy, RelocatableRegion, PageTableRelocationRegion}}
 use Rattle.rules.specs.Relocations.{isRelocatable, isPageTable, relocatableOf, pageTableOf, then, regionCount, regionAt, pageTableAt}
-use Rattle.regions.specs.declared.FoundTable.{FoundTable}
-use Rattle.regions.specs.Found.{foundRegion, foundTable}
+use Rattle.regions.specs.{declared.FoundTable.FoundTable, Found.{foundRegion, foundTable}}
 
 -- ---- any rows
 

@@ -1,13 +1,7 @@
 -- A header of another kind is no region.
 -- Assumes nothing.
-use mathlib.Core.Path.{_≡_, refl, sym}
-use mathlib.Core.Bool.{false, false≢true}
-use mathlib.Core.Option.{none}
-use Prim.Native.Nat.{ℕ}
-use lib.Dec.{eqb}
-use Rattle.initialization_header.specs.declared.IgvmInitializationHeader.{IgvmInitializationHeader}
-use Rattle.initialization_header.specs.declared.IgvmInitializationHeader.the-variants.{GuestPolicy, CcaPolicy, RelocatableRegion, PageTableRelocationRegion}
-use Rattle.initialization_header.specs.Fields.{kindNumber}
+use Rattle.rows.proofs.Kit.{_≡_, refl, sym, false, false≢true, none, ℕ, eqb}
+use Rattle.initialization_header.{specs.declared.IgvmInitializationHeader.IgvmInitializationHeader, specs.declared.IgvmInitializationHeader.the-variants.{GuestPolicy, CcaPolicy, RelocatableRegion, PageTableRelocationRegion}, specs.Fields.kindNumber}
 use Rattle.rules.specs.Relocations.{isRelocatable, isPageTable, relocatableOf, pageTableOf}
 
 pub not-relocatable : (h : IgvmInitializationHeader) → eqb (kindNumber h) 18 ≡ false

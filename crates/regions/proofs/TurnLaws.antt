@@ -1,21 +1,8 @@
 -- A loop over the initialization rows of a readable sheet: where it starts, what a turn of it knows, and where it ends.
 -- Assumes nothing.
-use mathlib.Core.Path.{_≡_, refl}
-use mathlib.Core.Bool.{true}
-use mathlib.Core.List.{List}
-use Prim.Native.Nat.{ℕ, _+_, _<_, _≤_}
-use native.Mathlib.Nat.{add-zero}
-use native.Mathlib.Omega.{arith}
-use lib.ListN.{length}
-use Rattle.rows.specs.Rows.{before}
+use Rattle.rows.{proofs.Kit.{_≡_, refl, true, List, ℕ, _+_, _<_, _≤_, add-zero, arith, length}, specs.Rows.before}
 use Rattle.igvm_defs.specs.Kinds.{initializationList, kindOf}
-use Rattle.sheet.specs.declared.Cursor.{Cursor}
-use Rattle.sheet.specs.declared.SheetHead.{SheetHead}
-use Rattle.sheet.specs.Head.{limits, headOf, rowCount}
-use Rattle.sheet.specs.Table.{rowKind, bodyOf}
-use Rattle.sheet.specs.Read.{codesOk, Readable}
-use Rattle.sheet.specs.Walk.{cursorAt, AtRow}
-use Rattle.sheet.proofs.Readable.{readable-bounds, readable-row, readable-least, at-row, initialization-row}
+use Rattle.sheet.{specs.declared.Cursor.Cursor, specs.declared.SheetHead.SheetHead, specs.Head.{limits, headOf, rowCount}, specs.Table.{rowKind, bodyOf}, specs.Read.{codesOk, Readable}, specs.Walk.{cursorAt, AtRow}, proofs.Readable.{readable-bounds, readable-row, readable-least, at-row, initialization-row}}
 use Rattle.initialization_header.specs.Initializations.{initializationOf}
 use Rattle.sheet_headers.specs.Headers.{sheetHeaders}
 use Rattle.answers.specs.Relocations.{sheetInitializations}

@@ -1,35 +1,15 @@
 -- What the calls answer where one of their refusals applies, and where none does.
 -- Assumes nothing.
-use mathlib.Core.Path.{_≡_, refl, ap, sym, _∙_}
-use mathlib.Core.Bool.{Bool, true, false, not, _&&_, _||_}
-use mathlib.Core.List.{List}
-use mathlib.Core.Option.{Option, none, some}
-use Prim.Native.Nat.{ℕ, zero, suc, _*_, _/_, _≤_, _<_}
-use native.Mathlib.Omega.{arith}
-use lib.Dec.{ltb}
-use lib.ListN.{length}
-use borrow.Author.Tests.{ltb-false}
-use Rattle.rows.proofs.Bools.{or-false-parts, ltb-same}
-use Rattle.igvm_defs.specs.declared.Refusal.{Refusal}
-use Rattle.igvm_defs.specs.Refusals.{noFault, noRefusal, isFault, isRefusal, inRow, orElse}
-use Rattle.igvm_defs.proofs.RefusalLaws.{orElse-first, orElse-later, else-refusal, row-refusal, no-fault-row, refuse-fault}
-use Rattle.sheet.specs.Head.{Limits, limits}
-use Rattle.sheet.specs.Read.{Readable, sheetRefusal}
-use Rattle.sheet.proofs.Readable.{readable-bounds, sheet-says}
-use Rattle.sheet_headers.specs.Headers.{sheetHeaders}
+use Rattle.rows.{proofs.Kit.{_≡_, refl, ap, sym, _∙_, Bool, true, false, _&&_, List, Option, none, some, ℕ, zero, suc, _*_, _/_, _≤_, _<_, arith, ltb, length, ltb-false}, proofs.Bools.{or-false-parts, ltb-same}}
+use Rattle.igvm_defs.{specs.declared.Refusal.Refusal, specs.Refusals.{noFault, noRefusal, isFault, isRefusal, inRow, orElse}, proofs.RefusalLaws.{orElse-first, orElse-later, else-refusal, row-refusal, no-fault-row, refuse-fault}}
+use Rattle.sheet.{specs.Head.{Limits, limits}, specs.Read.{Readable, sheetRefusal}, proofs.Readable.{readable-bounds, sheet-says}}
+use Rattle.rules.{specs.Relocations.{regionCount, regionAt, pageTableAt}, specs.declared.IgvmRelocatableRegion.IgvmRelocatableRegion, specs.declared.PageTableRegion.PageTableRegion}
 use Rattle.initialization_check.specs.declared.RelocRegions.{RelocRegions}
+use Rattle.sheet_headers.specs.Headers.{sheetHeaders}
+use Rattle.lent.{specs.Lent.rowsPut, proofs.LentLaws.rows-none}
+use Rattle.answers.{specs.declared.Checked.Checked, specs.Verdict.verdictRefusal, specs.Relocations.{sheetInitializations, maskFault, wordsFault, relocationsRefusal, foundOf, relocationsOf, regionWords, wordsAfter, regionFault, checkRefusal, testRegion, checkOf}}
 use Rattle.keep.specs.Kept.{Kept}
-use Rattle.rules.specs.Relocations.{regionCount, regionAt, pageTableAt}
-use Rattle.rules.specs.declared.IgvmRelocatableRegion.{IgvmRelocatableRegion}
-use Rattle.rules.specs.declared.PageTableRegion.{PageTableRegion}
-use Rattle.lent.specs.Lent.{rowsPut}
-use Rattle.lent.proofs.LentLaws.{rows-none}
-use Rattle.regions.specs.declared.FoundRegion.{FoundRegion}
-use Rattle.regions.specs.declared.FoundTable.{FoundTable}
-use Rattle.regions.specs.Found.{foundRegion, foundTable}
-use Rattle.answers.specs.declared.Checked.{Checked}
-use Rattle.answers.specs.Verdict.{verdictRefusal}
-use Rattle.answers.specs.Relocations.{sheetInitializations, maskFault, wordsFault, relocationsRefusal, foundOf, relocationsOf, regionWords, wordsAfter, regionFault, checkRefusal, testRegion, checkOf}
+use Rattle.regions.{specs.declared.FoundRegion.FoundRegion, specs.declared.FoundTable.FoundTable, specs.Found.{foundRegion, foundTable}}
 use Rattle.relocations.specs.Query.{queryRefusal}
 
 -- the mask's regions

@@ -1,16 +1,7 @@
 -- Laws of the definitions over the indexes below n. A law `..-more` is for a loop that goes from n to n + 1.
-use mathlib.Core.Path.{_≡_, refl, sym, ap, ap₂, _∙_}
-use mathlib.Core.Bool.{Bool, true, false, cond, _&&_, _||_, false≢true, and-false}
-use mathlib.Core.Logic.{_≢_, _↔_, _⊎_, inl, inr}
-use mathlib.Core.Option.{Option, none, some}
-use Prim.Native.Nat.{ℕ, zero, suc, _+_, _*_, _≤_, _<_, zero-le, suc-le-suc}
-use native.Mathlib.Nat.{not-suc-le-zero, eq-or-lt-of-le, le-of-suc-le-suc, add-suc, add-zero, mul-suc}
-use native.Mathlib.Omega.{arith}
-use native.Mathlib.Numerals.{add-one}
-use lib.Dec.{eqb}
-use borrow.Author.Tests.{eq-eqb, eqb-true, eqb-false, ne-eqb}
+use native.Mathlib.Nat.{mul-suc}
 use Rattle.rows.specs.Below.{anyBelow, orElse, firstBelow, lastBelow, sumBelow, countBelow, nthBelow}
-use Rattle.rows.proofs.Bools.{not-both, is-false, or-left, or-right, or-cases, and-parts, cond-map}
+use Rattle.rows.proofs.{Kit.{_≡_, refl, sym, ap, ap₂, _∙_, Bool, true, false, cond, _&&_, _||_, false≢true, and-false, _≢_, _↔_, _⊎_, inl, inr, Option, none, some, ℕ, zero, suc, _+_, _*_, _≤_, _<_, zero-le, suc-le-suc, not-suc-le-zero, eq-or-lt-of-le, le-of-suc-le-suc, add-suc, add-zero, arith, add-one, eqb, eq-eqb, eqb-true, eqb-false, ne-eqb}, Bools.{not-both, is-false, or-left, or-right, or-cases, and-parts, cond-map}}
 
 -- below suc n: n itself, or below n
 pub top : {i n : ℕ} → i < suc n → (i ≡ n) ⊎ (i < n)

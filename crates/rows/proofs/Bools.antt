@@ -1,10 +1,6 @@
 -- Facts of tests. `mathlib.Core.Bool` has more: `or-true`, `or-false`, `and-true`, `and-false`, `and-eq-true-iff`.
-use mathlib.Core.Path.{_≡_, refl, sym, _∙_}
-use mathlib.Core.Bool.{Bool, true, false, cond, _&&_, _||_, false≢true, and-eq-true-iff}
-use mathlib.Core.Logic.{_⊎_, inl, inr}
-use Prim.Native.Nat.{ℕ, _≤_, _<_}
-use lib.Dec.{ltb, leb, eqb}
-use borrow.Author.Tests.{lt-ltb, ltb-true, le-leb, leb-true, eq-eqb, eqb-true}
+use mathlib.Core.Bool.{and-eq-true-iff}
+use Rattle.rows.proofs.Kit.{_≡_, refl, sym, _∙_, Bool, true, false, cond, _&&_, _||_, false≢true, _⊎_, inl, inr, ℕ, _≤_, _<_, ltb, leb, eqb, lt-ltb, ltb-true, le-leb, leb-true, eq-eqb, eqb-true}
 
 -- ---- true and false
 

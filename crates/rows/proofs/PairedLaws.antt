@@ -1,17 +1,7 @@
 -- What tests and sums say of two lists that pair off, or of a list whose rows all stand in another.
-use mathlib.Core.Path.{_≡_, refl, sym, ap, _∙_}
-use mathlib.Core.Bool.{Bool, true, false, cond, false≢true}
-use mathlib.Core.Logic.{_⊎_, inl, inr}
-use mathlib.Core.Option.{Option, none, some}
-use Prim.Native.Nat.{ℕ, _≤_, _<_}
-use native.Mathlib.Nat.{lt-of-not-le, eq-or-lt-of-le, le-antisymm, le-of-eq}
-use native.Mathlib.Decide.{decLt}
-use native.Mathlib.Omega.{arith}
-use Rattle.rows.specs.Below.{lastBelow, sumBelow, nthBelow}
-use Rattle.rows.specs.Rows.{Rows, any, rowAt, last, before, countOf, nth, Apart, Once}
-use Rattle.rows.specs.Paired.{Paired, Into, Free}
-use Rattle.rows.proofs.Bools.{not-both, is-false, same-test}
-use Rattle.rows.proofs.BelowLaws.{any-below, some-below, LastAt, last-says, says-last, sum-le, count-none, count-all, nth-number, nth-says}
+use native.Mathlib.Nat.{lt-of-not-le}
+use Rattle.rows.specs.{Below.{lastBelow, sumBelow, nthBelow}, Rows.{Rows, any, rowAt, last, before, countOf, nth, Apart, Once}, Paired.{Paired, Into, Free}}
+use Rattle.rows.proofs.{Kit.{_≡_, refl, sym, ap, _∙_, Bool, true, false, cond, false≢true, _⊎_, inl, inr, Option, none, some, ℕ, _≤_, _<_, eq-or-lt-of-le, le-antisymm, le-of-eq, decLt, arith}, Bools.{not-both, is-false, same-test}, BelowLaws.{any-below, some-below, LastAt, last-says, says-last, sum-le, count-none, count-all, nth-number, nth-says}}
 
 -- ---- a row at an index
 

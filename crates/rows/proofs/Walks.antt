@@ -11,7 +11,7 @@ pub use prog.Wp.{Heap, Calls, Loops, WpFn, Tables}
 pub use ghost.Atoms.{Atoms, sem}
 pub use contract.Lifetimes.{Lfts}
 pub use contract.Monad.{Fun, fact}
-pub use contract.Running.{givenOf, tables, tablesOf}
+unfoldable pub use contract.Running.{givenOf, tables, tablesOf}
 pub use types.Kit.{Given, ‵, raw, _⊛_, given, ⋆, some, later, _$_, _∵_, !, qed, by, move, drop, use1, use2, split, join, learn, pick, rewrite, fsplit, fjoin, suffices, frame, await, done}
 pub use types.Part.{whole, sub, look-in, agg}
 pub use types.Run.{look, init, forget, stop, fld, from, load, of-opd, and-then, no-more, assigns, land, returns, enter, alloc1, alloc0, params1, pass1, pass0, free1, free0}
@@ -21,7 +21,7 @@ pub use denote.Laws.{Is, shows}
 pub use denote.Plain.{uint-makes, uint-vals, uint-tells}
 pub use denote.Builtin.{u8, usize}
 pub use denote.Ref.{RefT, NamedLft}
-pub use denote.Signature.{namedLft, plain}
+unfoldable pub use denote.Signature.{namedLft, plain}
 pub use denote.Slice.{sliceVal, ShrSlice, shr-slice-lawful, slice-vals, shr-slice-tells, shr-slice-copy}
 pub use denote.Steps.{owned, peeks, heard, nothing, only}
 pub use denote.Struct.Declared.{Declared}

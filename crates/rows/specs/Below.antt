@@ -1,5 +1,5 @@
 -- What holds of the indexes below a count. Each definition says at n + 1 what it says at n and what index n adds, as a loop that goes up.
-use mathlib.Core.Bool.{Bool, true, false, cond, _&&_, _||_}
+use mathlib.Core.Bool.{Bool, false, cond, _&&_, _||_}
 use mathlib.Core.Option.{Option, none, some}
 use Prim.Native.Nat.{ℕ, zero, suc, _+_}
 use lib.Dec.{eqb}

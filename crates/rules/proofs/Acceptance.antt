@@ -1,43 +1,16 @@
 -- The headers of a file are accepted exactly when `Accepted` holds of its rows.
 -- Assumes nothing.
-use mathlib.Core.Path.{_≡_, refl, sym, _∙_}
-use mathlib.Core.Bool.{Bool, true, false, not, _&&_, false≢true}
-use mathlib.Core.Logic.{_↔_}
-use mathlib.Core.Option.{none, some}
-use Prim.Native.Nat.{ℕ, _+_, _^_, _<_}
-use native.Mathlib.Omega.{arith}
-use lib.Dec.{eqb}
-use borrow.Author.Tests.{eqb-true, eqb-false, eq-eqb, ne-eqb, not-false}
-use Rattle.rows.specs.Rows.{Rows, any, before}
-use Rattle.rows.proofs.Bools.{and-parts}
-use Rattle.rows.proofs.BelowLaws.{none-any}
-use Rattle.rows.proofs.PairedLaws.{earlier-apart, apart-earlier}
-use Rattle.igvm_defs.specs.declared.Arch.{Arch}
-use Rattle.igvm_defs.specs.Refusals.{noFault, isFault, isRefusal, inRow, firstFault}
-use Rattle.igvm_defs.specs.Platforms.{platformTypeOf}
-use Rattle.igvm_defs.proofs.RefusalLaws.{no-fault, row-refusal}
+use Rattle.rows.{proofs.Kit.{_≡_, refl, sym, _∙_, Bool, true, false, not, _&&_, false≢true, _↔_, none, some, ℕ, _+_, _^_, _<_, arith, eqb, eqb-true, eqb-false, eq-eqb, ne-eqb, not-false}, specs.Rows.{Rows, any, before}, proofs.Bools.and-parts, proofs.BelowLaws.none-any, proofs.PairedLaws.{earlier-apart, apart-earlier}}
+use Rattle.igvm_defs.{specs.declared.Arch.Arch, specs.Refusals.{noFault, isFault, isRefusal, inRow, firstFault}, specs.Platforms.platformTypeOf, proofs.RefusalLaws.{no-fault, row-refusal}}
 use Rattle.platform_header.specs.declared.IgvmPlatformHeader.{IgvmPlatformHeader}
-use Rattle.initialization_header.specs.declared.IgvmInitializationHeader.{IgvmInitializationHeader}
-use Rattle.initialization_header.specs.declared.IgvmInitializationHeader.the-variants.{GuestPolicy, CcaPolicy, RelocatableRegion, PageTableRelocationRegion}
-use Rattle.directive_header.specs.declared.«IGVM_VHS_PARAMETER_INSERT».{«IGVM_VHS_PARAMETER_INSERT»}
-use Rattle.directive_header.specs.declared.IgvmDirectiveHeader.{IgvmDirectiveHeader}
-use Rattle.directive_header.specs.declared.IgvmDirectiveHeader.the-variants.{PageData, ParameterArea, VpCount, EnvironmentInfo, Srat, Madt, Slit, Pptt, MmioRanges, MemoryMap, CommandLine, DeviceTree, RequiredMemory, SnpVpContext, X64NativeVpContext, X64VbsVpContext, AArch64VbsVpContext, AArch64CcaVpContext, ParameterInsert, ErrorRange, SnpIdBlock, VbsMeasurement}
-use Rattle.directive_header.specs.Fields.{kindNumber}
-use Rattle.masks.specs.Masks.{hasBit}
-use Rattle.masks.proofs.MaskLaws.{first-mask-none}
+use Rattle.initialization_header.{specs.declared.IgvmInitializationHeader.IgvmInitializationHeader, specs.declared.IgvmInitializationHeader.the-variants.{GuestPolicy, CcaPolicy, RelocatableRegion, PageTableRelocationRegion}}
+use Rattle.directive_header.{specs.declared.«IGVM_VHS_PARAMETER_INSERT».«IGVM_VHS_PARAMETER_INSERT», specs.declared.IgvmDirectiveHeader.IgvmDirectiveHeader, specs.declared.IgvmDirectiveHeader.the-variants.{PageData, ParameterArea, VpCount, EnvironmentInfo, Srat, Madt, Slit, Pptt, MmioRanges, MemoryMap, CommandLine, DeviceTree, RequiredMemory, SnpVpContext, X64NativeVpContext, X64VbsVpContext, AArch64VbsVpContext, AArch64CcaVpContext, ParameterInsert, ErrorRange, SnpIdBlock, VbsMeasurement}, specs.Fields.kindNumber}
+use Rattle.masks.{specs.Masks.hasBit, proofs.MaskLaws.first-mask-none}
 use Rattle.addresses.specs.Addresses.{endsBeyond}
-use Rattle.rules.specs.declared.Region.{Region}
-use Rattle.rules.specs.Regions.{regionOf, regionPasses, tablesShare, overlap, tableHolds}
-use Rattle.rules.specs.Platforms.{validatePlatform, standsWith, sameType, platformFault, lastIsCca}
+use Rattle.rules.specs.{declared.Region.Region, Regions.{regionOf, regionPasses, tablesShare, overlap, tableHolds}, Platforms.{validatePlatform, standsWith, sameType, platformFault, lastIsCca}, Initializations.{validateInitialization, bitWithoutCca, withoutCca, initializationFault}, Directives.{validateDirective, allocates, badArea, insideTable, directiveFault, isContext, noContext}, Verdict.{Headers, platformFaults, initializationFaults, directiveFaults, noPlatform, noMatchingVpContext, platformsRefusal, initializationsRefusal, directivesRefusal, headersRefusal}, Accepted.{NotRefused, ownPlatformFault, ownInitializationFault, ownDirectiveFault, regionsClash, Accepted}}
+use Rattle.rules.proofs.{RegionLaws.{overlap-sym, tables-share-sym, region-fails, regions-clash-sym, clash-any}, FaultLaws.{refuse-none, or-none, bit-none, else-none, rows-none}, AreaLaws.{earlier-once, once-earlier, allocates-names, bad-area}}
 use Rattle.rules.specs.Initializations as Initializations
-use Rattle.rules.specs.Initializations.{validateInitialization, bitWithoutCca, withoutCca, initializationFault}
 use Rattle.rules.specs.Directives as Directives
-use Rattle.rules.specs.Directives.{validateDirective, allocates, badArea, insideTable, directiveFault, isContext, noContext}
-use Rattle.rules.specs.Verdict.{Headers, platformFaults, initializationFaults, directiveFaults, noPlatform, noMatchingVpContext, platformsRefusal, initializationsRefusal, directivesRefusal, headersRefusal}
-use Rattle.rules.specs.Accepted.{NotRefused, ownPlatformFault, ownInitializationFault, ownDirectiveFault, regionsClash, Accepted}
-use Rattle.rules.proofs.RegionLaws.{overlap-sym, tables-share-sym, region-fails, regions-clash-sym, clash-any}
-use Rattle.rules.proofs.FaultLaws.{refuse-none, or-none, bit-none, else-none, rows-none}
-use Rattle.rules.proofs.AreaLaws.{earlier-once, once-earlier, allocates-names, bad-area}
 
 -- ---- a platform row: 8 to 13, and 14
 

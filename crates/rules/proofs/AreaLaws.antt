@@ -1,19 +1,7 @@
 -- Laws of parameter areas: which header allocates, inserts or names an area, and when 32 finds nothing.
 -- Assumes nothing.
-use mathlib.Core.Path.{_≡_, refl, sym, ap}
-use mathlib.Core.Bool.{Bool, true, false, cond, not, false≢true, and-true}
-use mathlib.Core.Logic.{_↔_}
-use mathlib.Core.Option.{Option, none, some}
-use Prim.Native.Nat.{ℕ, _<_}
-use native.Mathlib.Decide.{decLt}
-use native.Mathlib.Omega.{arith}
-use lib.Dec.{eqb}
-use borrow.Author.Tests.{eqb-true, eq-eqb, not-false}
-use Rattle.rows.specs.Rows.{Rows, any, before, Once}
-use Rattle.rows.proofs.Bools.{not-both, is-false, and-parts}
-use Rattle.rows.proofs.BelowLaws.{any-below, some-below}
-use Rattle.directive_header.specs.declared.IgvmDirectiveHeader.{IgvmDirectiveHeader}
-use Rattle.directive_header.specs.Fields.{kindNumber, areaOf}
+use Rattle.rows.{proofs.Kit.{_≡_, refl, sym, ap, Bool, true, false, cond, not, false≢true, and-true, _↔_, Option, none, some, ℕ, _<_, decLt, arith, eqb, eqb-true, eq-eqb, not-false}, specs.Rows.{Rows, any, before, Once}, proofs.Bools.{not-both, is-false, and-parts}, proofs.BelowLaws.{any-below, some-below}}
+use Rattle.directive_header.{specs.declared.IgvmDirectiveHeader.IgvmDirectiveHeader, specs.Fields.{kindNumber, areaOf}}
 use Rattle.rules.specs.Directives.{testArea, allocates, inserts, isAllocated, badArea}
 
 -- ---- at most one row passes: no row that passes has one before it that does

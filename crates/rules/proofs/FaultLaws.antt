@@ -1,16 +1,7 @@
 -- When a chain of tests finds no fault, and a list of rows no refusal.
 -- Assumes nothing.
-use mathlib.Core.Path.{_≡_, refl, sym, _∙_}
-use mathlib.Core.Bool.{Bool, true, false, cond, _||_, false≢true}
-use mathlib.Core.Logic.{_↔_}
-use mathlib.Core.Option.{Option, none, some}
-use Prim.Native.Nat.{ℕ, suc, _<_}
-use Rattle.rows.proofs.Bools.{or-false-parts}
-use Rattle.rows.proofs.BelowLaws.{none-any}
-use Rattle.igvm_defs.specs.declared.Fault.{Fault}
-use Rattle.igvm_defs.specs.declared.Refusal.{Refusal}
-use Rattle.igvm_defs.specs.Refusals.{fault, refuse, orFault, isFault, isRefusal, orElse, firstFault}
-use Rattle.igvm_defs.proofs.RefusalLaws.{refuse-fault, else-refusal, faults-any}
+use Rattle.rows.{proofs.Kit.{_≡_, refl, sym, _∙_, Bool, true, false, cond, _||_, false≢true, _↔_, Option, none, some, ℕ, suc, _<_}, proofs.Bools.or-false-parts, proofs.BelowLaws.none-any}
+use Rattle.igvm_defs.{specs.declared.Fault.Fault, specs.declared.Refusal.Refusal, specs.Refusals.{fault, refuse, orFault, isFault, isRefusal, orElse, firstFault}, proofs.RefusalLaws.{refuse-fault, else-refusal, faults-any}}
 use Rattle.rules.specs.Initializations.{refuseBit}
 
 neither : (b c d : Bool) → b ≡ (c || d) → (b ≡ false) ↔ ((c ≡ false) × (d ≡ false))

@@ -1,18 +1,10 @@
 -- Files whose rows pair off answer alike.
 -- Assumes nothing.
-use mathlib.Core.Path.{_≡_, sym}
-use mathlib.Core.Bool.{false}
-use mathlib.Core.Logic.{_↔_}
-use Rattle.rows.specs.Paired.{Free}
-use Rattle.rows.proofs.PairedLaws.{forth, flip}
+use Rattle.rows.{proofs.Kit.{_≡_, sym, false, _↔_}, specs.Paired.Free, proofs.PairedLaws.{forth, flip}}
 use Rattle.igvm_defs.specs.Refusals.{isRefusal}
 use Rattle.initialization_header.specs.declared.IgvmInitializationHeader.{IgvmInitializationHeader}
-use Rattle.rules.specs.Verdict.{Headers, headersRefusal}
-use Rattle.rules.specs.Accepted.{Accepted}
-use Rattle.rules.specs.Reordered.{Reordered, SameAnswers}
-use Rattle.rules.proofs.Acceptance.{accepted-says}
-use Rattle.rules.proofs.Within.{Within, mask-sym, area-sym, within-accepted}
-use Rattle.rules.proofs.QueryLaws.{region-there, region-count-same, page-table-same}
+use Rattle.rules.specs.{Verdict.{Headers, headersRefusal}, Accepted.Accepted, Reordered.{Reordered, SameAnswers}}
+use Rattle.rules.proofs.{Acceptance.accepted-says, Within.{Within, mask-sym, area-sym, within-accepted}, QueryLaws.{region-there, region-count-same, page-table-same}}
 
 free-sym : (x y : IgvmInitializationHeader) → Free x y → Free y x
 free-sym x y e = e

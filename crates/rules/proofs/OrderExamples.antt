@@ -1,36 +1,14 @@
 -- Two rows exchanged, as a pairing; and that neither order condition of `Reordered` can be left out.
 -- Assumes nothing.
-use mathlib.Core.Path.{_≡_, refl}
-use mathlib.Core.Bool.{true, false}
-use mathlib.Core.List.{List, [], _∷_}
-use mathlib.Core.Logic.{_↔_}
-use Prim.Native.Nat.{ℕ, zero, suc, _<_}
-use native.Mathlib.Omega.{arith}
 use lib.Count.{ones}
-use lib.ListN.{length, getD}
-use Rattle.rows.specs.Below.{anyBelow, firstBelow, lastBelow}
-use Rattle.rows.specs.Rows.{Rows}
-use Rattle.rows.specs.Paired.{Paired, Free}
-use Rattle.rows.proofs.Bools.{not-both}
-use Rattle.rows.proofs.PairedLaws.{unmoved}
-use Rattle.igvm_defs.specs.declared.Arch.{Arch}
-use Rattle.igvm_defs.specs.declared.Arch.the-variants.{X64, AArch64}
-use Rattle.igvm_defs.specs.Refusals.{isFault, isRefusal, inRow, orElse, firstFault}
-use Rattle.igvm_defs.specs.Platforms.{platformTypes, isPlatformType, platformTypeOf}
+use Rattle.rows.{proofs.Kit.{_≡_, refl, true, false, List, [], _∷_, _↔_, ℕ, zero, suc, _<_, arith, length, getD}, specs.Below.{anyBelow, firstBelow, lastBelow}, specs.Rows.Rows, specs.Paired.{Paired, Free}, proofs.Bools.not-both, proofs.PairedLaws.unmoved}
+use Rattle.igvm_defs.{specs.declared.Arch.Arch, specs.declared.Arch.the-variants.{X64, AArch64}, specs.Refusals.{isFault, isRefusal, inRow, orElse, firstFault}, specs.Platforms.{platformTypes, isPlatformType, platformTypeOf}}
 use Rattle.platform_header.specs.declared.IgvmPlatformHeader.{IgvmPlatformHeader}
-use Rattle.initialization_header.specs.declared.IgvmInitializationHeader.{IgvmInitializationHeader}
-use Rattle.initialization_header.specs.declared.IgvmInitializationHeader.the-variants.{GuestPolicy, CcaPolicy}
-use Rattle.directive_header.specs.declared.IgvmDirectiveHeader.{IgvmDirectiveHeader}
-use Rattle.directive_header.specs.declared.IgvmDirectiveHeader.the-variants.{ParameterArea, VpCount, VbsMeasurement}
+use Rattle.initialization_header.{specs.declared.IgvmInitializationHeader.IgvmInitializationHeader, specs.declared.IgvmInitializationHeader.the-variants.{GuestPolicy, CcaPolicy}}
+use Rattle.directive_header.{specs.declared.IgvmDirectiveHeader.IgvmDirectiveHeader, specs.declared.IgvmDirectiveHeader.the-variants.{ParameterArea, VpCount, VbsMeasurement}}
 use Rattle.masks.specs.Masks.{shares, isOneBit, hasBit, bitsBelow, firstMask}
 use Rattle.addresses.specs.Addresses.{isMultiple}
-use Rattle.rules.specs.Regions.{regionPasses}
-use Rattle.rules.specs.Platforms.{validatePlatform, sameType, platformFault, lastIsCca}
-use Rattle.rules.specs.Initializations.{bitWithoutCca, initializationFault}
-use Rattle.rules.specs.Directives.{wrongArch, allocates, inserts, isAllocated, badArea, directiveFault}
-use Rattle.rules.specs.Verdict.{Headers, noPlatform, noMatchingVpContext, platformsRefusal, initializationsRefusal, directivesRefusal, headersRefusal}
-use Rattle.rules.specs.Accepted.{NotRefused}
-use Rattle.rules.specs.Reordered.{SameMask, SameArea}
+use Rattle.rules.specs.{Regions.regionPasses, Platforms.{validatePlatform, sameType, platformFault, lastIsCca}, Initializations.{bitWithoutCca, initializationFault}, Directives.{wrongArch, allocates, inserts, isAllocated, badArea, directiveFault}, Verdict.{Headers, noPlatform, noMatchingVpContext, platformsRefusal, initializationsRefusal, directivesRefusal, headersRefusal}, Accepted.NotRefused, Reordered.{SameMask, SameArea}}
 use Rattle.rules.proofs.Order.{same-accepted}
 
 -- ---- two rows exchanged

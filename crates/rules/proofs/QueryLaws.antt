@@ -1,25 +1,9 @@
 -- The mask's regions and its page-table region, by rows.
 -- Assumes nothing.
-use mathlib.Core.Path.{_≡_, refl, sym, ap}
-use mathlib.Core.Bool.{true, _||_, false≢true, or-false}
-use mathlib.Core.Logic.{_≢_}
-use mathlib.Core.Option.{Option, some}
-use Prim.Native.Nat.{ℕ, _<_}
-use native.Mathlib.Decide.{ℕ-discrete}
-use Rattle.rows.specs.Rows.{Rows, Apart, Once}
-use Rattle.rows.specs.Paired.{Paired, Into}
-use Rattle.rows.proofs.Bools.{not-both}
-use Rattle.rows.proofs.BelowLaws.{count-lt, nth-number}
-use Rattle.rows.proofs.PairedLaws.{nth-there, count-same, once-same}
-use Rattle.initialization_header.specs.declared.IgvmInitializationHeader.{IgvmInitializationHeader}
-use Rattle.initialization_header.specs.declared.IgvmInitializationHeader.the-variants.{GuestPolicy, CcaPolicy, RelocatableRegion, PageTableRelocationRegion}
-use Rattle.masks.specs.Masks.{matches}
-use Rattle.masks.proofs.MaskLaws.{matches-shares}
-use Rattle.rules.specs.declared.Region.{Region}
-use Rattle.rules.specs.Regions.{regionOf, regionPasses, tablesShare}
-use Rattle.rules.specs.Relocations.{isRelocatable, isPageTable, relocatableOf, pageTableOf, then, regionCount, regionAt, pageTableAt}
-use Rattle.rules.specs.Accepted.{regionsClash}
-use Rattle.rules.specs.Reordered.{regionNumber}
+use Rattle.rows.{proofs.Kit.{_≡_, refl, sym, ap, true, _||_, false≢true, or-false, _≢_, Option, some, ℕ, _<_, ℕ-discrete}, specs.Rows.{Rows, Apart, Once}, specs.Paired.{Paired, Into}, proofs.Bools.not-both, proofs.BelowLaws.{count-lt, nth-number}, proofs.PairedLaws.{nth-there, count-same, once-same}}
+use Rattle.initialization_header.{specs.declared.IgvmInitializationHeader.IgvmInitializationHeader, specs.declared.IgvmInitializationHeader.the-variants.{GuestPolicy, CcaPolicy, RelocatableRegion, PageTableRelocationRegion}}
+use Rattle.masks.{specs.Masks.matches, proofs.MaskLaws.matches-shares}
+use Rattle.rules.specs.{declared.Region.Region, Regions.{regionOf, regionPasses, tablesShare}, Relocations.{isRelocatable, isPageTable, relocatableOf, pageTableOf, then, regionCount, regionAt, pageTableAt}, Accepted.regionsClash, Reordered.regionNumber}
 use Rattle.rules.proofs.RegionLaws.{tables-share-says, regions-clash}
 
 -- ---- rows that match a mask

@@ -1,23 +1,10 @@
 -- Laws of regions and of the tests on them.
 -- Assumes nothing.
-use mathlib.Core.Path.{_≡_, refl, sym}
-use mathlib.Core.Bool.{Bool, true, false, _&&_, false≢true}
-use mathlib.Core.Logic.{_↔_}
-use mathlib.Core.Option.{Option, none, some}
-use Prim.Native.Nat.{ℕ, _+_}
-use native.Mathlib.Omega.{arith}
-use lib.Dec.{leb, ltb}
-use borrow.Author.Tests.{lt-ltb, ltb-true, leb-true}
-use Rattle.rows.specs.Rows.{Rows, any}
-use Rattle.rows.proofs.Bools.{not-both, is-false, and-parts}
-use Rattle.rows.proofs.BelowLaws.{none-any}
+use Rattle.rows.{proofs.Kit.{_≡_, refl, sym, Bool, true, false, _&&_, false≢true, _↔_, Option, none, some, ℕ, _+_, arith, leb, ltb, lt-ltb, ltb-true, leb-true}, specs.Rows.{Rows, any}, proofs.Bools.{not-both, is-false, and-parts}, proofs.BelowLaws.none-any}
 use Rattle.initialization_header.specs.declared.IgvmInitializationHeader.{IgvmInitializationHeader}
-use Rattle.masks.specs.Masks.{shares}
-use Rattle.masks.proofs.MaskLaws.{shares-sym}
+use Rattle.masks.{specs.Masks.shares, proofs.MaskLaws.shares-sym}
 use Rattle.addresses.specs.Addresses.{contains, meets}
-use Rattle.rules.specs.declared.Region.{Region}
-use Rattle.rules.specs.Regions.{regionOf, testRegion, regionPasses, tablesShare, overlap}
-use Rattle.rules.specs.Accepted.{regionsClash}
+use Rattle.rules.specs.{declared.Region.Region, Regions.{regionOf, testRegion, regionPasses, tablesShare, overlap}, Accepted.regionsClash}
 
 -- ---- ranges of addresses
 

@@ -1,18 +1,10 @@
 -- The regions of an accepted file are sound.
 -- Assumes nothing.
-use mathlib.Core.Path.{_≡_}
-use mathlib.Core.Bool.{false}
-use Rattle.rows.proofs.Bools.{not-both}
-use Rattle.rows.proofs.BelowLaws.{some-below}
+use Rattle.rows.{proofs.Kit.{_≡_, false}, proofs.Bools.not-both, proofs.BelowLaws.some-below}
 use Rattle.igvm_defs.specs.Refusals.{isRefusal}
 use Rattle.masks.proofs.MaskLaws.{matches-shares}
-use Rattle.rules.specs.Regions.{overlap}
-use Rattle.rules.specs.Directives.{isContext}
-use Rattle.rules.specs.Verdict.{Headers, headersRefusal}
-use Rattle.rules.specs.Accepted.{Accepted}
-use Rattle.rules.specs.Sound.{Sound}
-use Rattle.rules.proofs.RegionLaws.{contains-meets, overlap-says, regions-clash}
-use Rattle.rules.proofs.Acceptance.{accepted-says}
+use Rattle.rules.specs.{Regions.overlap, Directives.isContext, Verdict.{Headers, headersRefusal}, Accepted.Accepted, Sound.Sound}
+use Rattle.rules.proofs.{RegionLaws.{contains-meets, overlap-says, regions-clash}, Acceptance.accepted-says}
 
 sound : (f : Headers) → Accepted f → Sound f
 sound f a =

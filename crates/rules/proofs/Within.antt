@@ -1,28 +1,11 @@
 -- A file whose rows all stand in an accepted file is accepted, where what its rows rely on stands in it too: platforms, VBS contexts, and
 -- the areas that it names. Reordered files are an example both ways.
 -- Assumes nothing.
-use mathlib.Core.Path.{_≡_, sym, ap, _∙_, subst}
-use mathlib.Core.Bool.{Bool, true, false, not}
-use mathlib.Core.Option.{some}
-use Prim.Native.Nat.{ℕ, _<_}
-use native.Mathlib.Omega.{arith}
-use lib.Dec.{eqb}
-use borrow.Author.Tests.{eqb-true, not-true}
-use Rattle.rows.specs.Rows.{Rows, any, before}
-use Rattle.rows.specs.Paired.{Paired, Into, Free}
-use Rattle.rows.proofs.Bools.{and-parts}
-use Rattle.rows.proofs.BelowLaws.{any-below, some-below}
-use Rattle.rows.proofs.PairedLaws.{earlier-false, keeps-back, apart-back, once-back, forth, length-same, last-same}
+use Rattle.rows.{proofs.Kit.{_≡_, sym, ap, _∙_, subst, Bool, true, false, not, some, ℕ, _<_, arith, eqb, eqb-true, not-true}, specs.Rows.{Rows, any, before}, specs.Paired.{Paired, Into, Free}, proofs.Bools.and-parts, proofs.BelowLaws.{any-below, some-below}, proofs.PairedLaws.{earlier-false, keeps-back, apart-back, once-back, forth, length-same, last-same}}
 use Rattle.igvm_defs.specs.Refusals.{isFault}
 use Rattle.platform_header.specs.declared.IgvmPlatformHeader.{IgvmPlatformHeader}
-use Rattle.directive_header.specs.declared.IgvmDirectiveHeader.{IgvmDirectiveHeader}
-use Rattle.directive_header.specs.Fields.{areaOf}
-use Rattle.rules.specs.Regions.{regionOf, tablesShare, overlap}
-use Rattle.rules.specs.Platforms.{sameType, isCca, lastIsCca}
-use Rattle.rules.specs.Directives.{allocates, inserts, isAllocated, isContext}
-use Rattle.rules.specs.Verdict.{Headers}
-use Rattle.rules.specs.Accepted.{ownPlatformFault, ownInitializationFault, ownDirectiveFault, regionsClash, Accepted}
-use Rattle.rules.specs.Reordered.{SameMask, SameArea}
+use Rattle.directive_header.{specs.declared.IgvmDirectiveHeader.IgvmDirectiveHeader, specs.Fields.areaOf}
+use Rattle.rules.specs.{Regions.{regionOf, tablesShare, overlap}, Platforms.{sameType, isCca, lastIsCca}, Directives.{allocates, inserts, isAllocated, isContext}, Verdict.Headers, Accepted.{ownPlatformFault, ownInitializationFault, ownDirectiveFault, regionsClash, Accepted}, Reordered.{SameMask, SameArea}}
 use Rattle.rules.proofs.AreaLaws.{allocates-names, inserts-names}
 
 pub record Within (g f : Headers) : Type 0 where

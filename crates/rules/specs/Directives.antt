@@ -1,7 +1,7 @@
 -- What is wrong with a directive header, given the initialization headers and the directive headers before it: refusals 21, 22, 24 and 30 to 33;
 -- and which region has no VP context: 34.
 use Prim.Native.Nat.{ℕ}
-use mathlib.Core.Bool.{Bool, true, false, cond, not, _&&_}
+use mathlib.Core.Bool.{Bool, false, cond, not, _&&_}
 use mathlib.Core.Option.{Option, none, some}
 use lib.Dec.{eqb, ltb}
 use Rattle.rows.specs.Rows.{Rows, any}

@@ -1,6 +1,6 @@
 -- What is wrong with an initialization header, given the platform headers and the initialization headers before it: refusals 16 to 29.
 use Prim.Native.Nat.{ℕ}
-use mathlib.Core.Bool.{Bool, true, false, not, _&&_}
+use mathlib.Core.Bool.{Bool, false, not}
 use mathlib.Core.Option.{Option, none, some}
 use lib.Dec.{eqb, ltb}
 use Rattle.rows.specs.Rows.{Rows, any}
@@ -14,7 +14,6 @@ use Rattle.initialization_header.specs.declared.IgvmInitializationHeader.{IgvmI
 use Rattle.initialization_header.specs.declared.IgvmInitializationHeader.the-variants.{GuestPolicy, CcaPolicy, RelocatableRegion, PageTableRelocationRegion}
 use Rattle.masks.specs.Masks.{shares, individualMasks, firstMask}
 use Rattle.addresses.specs.Addresses.{isMultiple, onPage, endsBeyond}
-use Rattle.rules.specs.declared.Region.{Region}
 use Rattle.rules.specs.Regions.{regionPasses, tablesShare, overlap}
 
 -- 20, with the first of gpa, minimum and maximum that is not a multiple of the alignment

@@ -1,6 +1,6 @@
 -- What is wrong with a platform header, given the platform headers before it: refusals 8 to 14.
 use Prim.Native.Nat.{ℕ}
-use mathlib.Core.Bool.{Bool, true, false, not, _&&_, _||_}
+use mathlib.Core.Bool.{Bool, false, not, _&&_, _||_}
 use mathlib.Core.Option.{Option, none, some}
 use lib.Dec.{eqb}
 use Rattle.rows.specs.Rows.{Rows, any, last}

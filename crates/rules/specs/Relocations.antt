@@ -1,6 +1,6 @@
 -- The relocation query of an accepted file: a mask's regions in header order, its page-table region, and checks on one region.
-use Prim.Native.Nat.{ℕ, _+_, _*_}
-use mathlib.Core.Bool.{Bool, true, false, cond}
+use Prim.Native.Nat.{ℕ, _+_}
+use mathlib.Core.Bool.{Bool, false, cond}
 use mathlib.Core.List.{List, [], _∷_}
 use mathlib.Core.Option.{Option, none, some}
 use Rattle.rows.specs.Rows.{Rows, countOf, nth}

@@ -1,6 +1,5 @@
 -- The first refusal of a file's headers, 8 to 34: list after list, row after row.
 use Prim.Native.Nat.{ℕ, _+_}
-use mathlib.Core.Bool.{Bool}
 use lib.Dec.{eqb}
 use Rattle.rows.specs.Rows.{Rows, any, before}
 use Rattle.igvm_defs.specs.declared.Arch.{Arch}

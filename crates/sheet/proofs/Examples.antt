@@ -1,16 +1,9 @@
 -- Image B of document 01 and changes of it, by computation: each of the refusals 1 to 7, and which comes first where two apply.
 -- Assumes nothing.
-use mathlib.Core.Path.{_≡_, refl}
-use mathlib.Core.List.{List, [], _∷_, _++_}
-use Prim.Native.Nat.{ℕ}
-use lib.ListN.{set, take}
-use Rattle.rows.specs.Below.{anyBelow, firstBelow, sumBelow}
+use Rattle.rows.{proofs.Kit.{_≡_, refl, List, [], _∷_, _++_, ℕ, set, take}, specs.Below.{anyBelow, firstBelow, sumBelow}}
 use Rattle.le.specs.Le.{leAt}
-use Rattle.igvm_defs.specs.Refusals.{refusal, noRefusal, isFault, isRefusal, inRow, orElse, firstFault}
-use Rattle.igvm_defs.specs.Kinds.{spans, kindOf, lengthOk}
-use Rattle.sheet.specs.Head.{limits, headOf, layoutOk, withinLimits, startFault, revisionOf, pageSizeFault}
-use Rattle.sheet.specs.Table.{rowKind, rowLength, offsetOf, bodyOf}
-use Rattle.sheet.specs.Read.{listAt, codesOk, rowFault, endFault, rowsRefusal, readRefusal, sheetRefusal}
+use Rattle.igvm_defs.{specs.Refusals.{refusal, noRefusal, isFault, isRefusal, inRow, orElse, firstFault}, specs.Kinds.{spans, kindOf, lengthOk}}
+use Rattle.sheet.specs.{Head.{limits, headOf, layoutOk, withinLimits, startFault, revisionOf, pageSizeFault}, Table.{rowKind, rowLength, offsetOf, bodyOf}, Read.{listAt, codesOk, rowFault, endFault, rowsRefusal, readRefusal, sheetRefusal}}
 
 unfoldable pub imageB : List ℕ
 imageB =

@@ -1,20 +1,8 @@
 -- Laws of `rowsRefusal` and `sheetRefusal`, for the passes that compute them: how far the rows were read, and what each says at the end.
 -- Assumes nothing.
-use mathlib.Core.Path.{_≡_, refl, sym, ap}
-use mathlib.Core.Bool.{true, false}
-use mathlib.Core.List.{List}
-use Prim.Native.Nat.{ℕ, _+_, _<_, _≤_}
-use native.Mathlib.Omega.{arith}
-use lib.ListN.{length}
-use Rattle.rows.specs.Below.{anyBelow}
-use Rattle.rows.proofs.BelowLaws.{any-more}
-use Rattle.igvm_defs.specs.Refusals.{noRefusal, isFault, isRefusal, inRow}
-use Rattle.igvm_defs.proofs.RefusalLaws.{row-refusal, orElse-first, orElse-later, fault-end}
-use Rattle.sheet.specs.declared.Cursor.{Cursor}
-use Rattle.sheet.specs.Head.{Limits, headOf, rowCount, bodiesAt, startFault, pageSizeFault}
-use Rattle.sheet.specs.Table.{rowLength, offsetOf}
-use Rattle.sheet.specs.Read.{rowFault, endFault, rowsRefusal, readRefusal, sheetRefusal}
-use Rattle.sheet.specs.Walk.{Passed, ReadTo}
+use Rattle.rows.{proofs.Kit.{_≡_, refl, sym, ap, true, false, List, ℕ, _+_, _<_, _≤_, arith, length}, specs.Below.anyBelow, proofs.BelowLaws.any-more}
+use Rattle.igvm_defs.{specs.Refusals.{noRefusal, isFault, isRefusal, inRow}, proofs.RefusalLaws.{row-refusal, orElse-first, orElse-later, fault-end}}
+use Rattle.sheet.specs.{declared.Cursor.Cursor, Head.{Limits, headOf, rowCount, bodiesAt, startFault, pageSizeFault}, Table.{rowLength, offsetOf}, Read.{rowFault, endFault, rowsRefusal, readRefusal, sheetRefusal}, Walk.{Passed, ReadTo}}
 use Rattle.sheet.proofs.Readable.{RowOk, row-says, offset-first, offset-next}
 
 passed-none : (s : List ℕ) → Passed s 0

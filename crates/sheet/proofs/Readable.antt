@@ -1,31 +1,10 @@
 -- What holds of a readable sheet: its head and its rows pass, and the bodies end where the sheet does. Both ways.
 -- Assumes nothing.
-use mathlib.Core.Path.{_≡_, refl}
-use mathlib.Core.Bool.{Bool, true, false, not, _&&_, _||_}
-use mathlib.Core.List.{List}
-use mathlib.Core.Logic.{_↔_}
-use Prim.Native.Nat.{ℕ, zero, suc, _+_, _<_, _≤_}
-use native.Mathlib.Omega.{arith}
-use native.Mathlib.Numerals.{add-one}
-use lib.Dec.{leb, ltb, eqb}
-use lib.ListN.{length, length-take, length-drop}
-use lib.Seq.{getD-take, getD-drop}
-use borrow.Author.Tests.{leb-true, le-leb, ltb-false, le-ltb, lt-ltb, eqb-true, eq-eqb, not-false}
-use Rattle.rows.specs.Below.{anyBelow, sumBelow}
-use Rattle.rows.proofs.Bools.{or-false-parts, and-parts}
-use Rattle.rows.proofs.BelowLaws.{none-any, sum-more}
+use lib.Seq.{getD-drop}
+use Rattle.rows.{proofs.Kit.{_≡_, refl, Bool, true, false, not, _&&_, _||_, List, _↔_, ℕ, zero, suc, _+_, _<_, _≤_, arith, add-one, leb, ltb, eqb, length, length-take, length-drop, getD-take, leb-true, le-leb, ltb-false, le-ltb, lt-ltb, eqb-true, eq-eqb, not-false}, specs.Below.{anyBelow, sumBelow}, proofs.Bools.{or-false-parts, and-parts}, proofs.BelowLaws.{none-any, sum-more}}
 use Rattle.le.specs.Le.{byteAt}
-use Rattle.igvm_defs.specs.Refusals.{isFault, isRefusal}
-use Rattle.igvm_defs.specs.Kinds.{platformList, initializationList, directiveList, kindOf, lengthOk}
-use Rattle.igvm_defs.specs.Revision.{pageSizeOf}
-use Rattle.igvm_defs.proofs.RefusalLaws.{no-fault, refuse-fault, row-refusal, else-refusal, faults-any}
-use Rattle.igvm_defs.proofs.LengthLaws.{length-least}
-use Rattle.sheet.specs.declared.Cursor.{Cursor}
-use Rattle.sheet.specs.declared.SheetHead.{SheetHead}
-use Rattle.sheet.specs.Head.{Limits, limits, headOf, rowCount, bodiesAt, layoutOk, withinLimits, startFault, revisionOf, pageSizeFault}
-use Rattle.sheet.specs.Table.{rowKind, rowLength, offsetOf, bodyOf}
-use Rattle.sheet.specs.Read.{listAt, codesOk, rowFault, endFault, rowsRefusal, readRefusal, Readable, sheetRefusal}
-use Rattle.sheet.specs.Walk.{cursorAt, AtRow}
+use Rattle.igvm_defs.{specs.Refusals.{isFault, isRefusal}, specs.Kinds.{platformList, initializationList, directiveList, kindOf, lengthOk}, specs.Revision.pageSizeOf, proofs.RefusalLaws.{no-fault, refuse-fault, row-refusal, else-refusal, faults-any}, proofs.LengthLaws.length-least}
+use Rattle.sheet.specs.{declared.Cursor.Cursor, declared.SheetHead.SheetHead, Head.{Limits, limits, headOf, rowCount, bodiesAt, layoutOk, withinLimits, startFault, revisionOf, pageSizeFault}, Table.{rowKind, rowLength, offsetOf, bodyOf}, Read.{listAt, codesOk, rowFault, endFault, rowsRefusal, readRefusal, Readable, sheetRefusal}, Walk.{cursorAt, AtRow}}
 
 -- ---- whether a fault or a refusal is met, as one test
 start-fault : (l : Limits) (s : List ℕ) → isFault (startFault l s)

@@ -1,8 +1,6 @@
 -- Laws of a sheet's headers.
 -- Assumes nothing.
-use Prim.Native.Nat.{ℕ}
-use mathlib.Core.List.{List}
-use mathlib.Core.Path.{_≡_, refl}
+use Rattle.rows.proofs.Kit.{ℕ, List, _≡_, refl}
 use Rattle.igvm_defs.specs.Revision.{archOf}
 use Rattle.sheet.specs.Head.{headOf, revisionOf}
 use Rattle.sheet_headers.specs.Headers.{sheetHeaders}

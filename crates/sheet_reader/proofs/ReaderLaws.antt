@@ -1,16 +1,6 @@
 -- What the sheet reader reads at a cursor that stands at a row: that row's kind and body, and the cursor at the row after it. Assumes nothing.
-use mathlib.Core.Path.{_≡_}
-use mathlib.Core.Bool.{true}
-use mathlib.Core.List.{List}
-use Prim.Native.Nat.{ℕ, _+_, _*_, _≤_}
-use lib.Dec.{leb}
-use lib.ListN.{length}
-use borrow.Author.Tests.{leb-true, le-leb}
-use Rattle.rows.proofs.Bools.{and-parts}
-use Rattle.sheet.specs.declared.Cursor.{Cursor}
-use Rattle.sheet.specs.Table.{rowKind, rowLength, bodyOf}
-use Rattle.sheet.specs.Walk.{cursorAt, AtRow}
-use Rattle.sheet.proofs.Readable.{offset-next}
+use Rattle.rows.{proofs.Kit.{_≡_, true, List, ℕ, _+_, _*_, _≤_, leb, length, leb-true, le-leb}, proofs.Bools.and-parts}
+use Rattle.sheet.{specs.declared.Cursor.Cursor, specs.Table.{rowKind, rowLength, bodyOf}, specs.Walk.{cursorAt, AtRow}, proofs.Readable.offset-next}
 use Rattle.sheet_reader.specs.Reading.{inSheet, rowAt, bodyAt, placeAfter}
 
 -- what the test of `inSheet` says

@@ -1,24 +1,8 @@
 -- Laws of the loops that read the rows: pages pass, rows passed add up, and the first row with a fault stops the reading.
 -- Assumes nothing.
-use mathlib.Core.Path.{_≡_, refl}
-use mathlib.Core.Bool.{Bool, true, false, _&&_}
-use mathlib.Core.List.{List}
-use Prim.Native.Nat.{ℕ, _+_, _-_, _<_, _≤_}
-use native.Mathlib.Nat.{zero-add}
-use native.Mathlib.Omega.{arith}
-use lib.Dec.{eqb, leb, ltb}
-use lib.ListN.{length}
-use borrow.Author.Tests.{ltb-true, ltb-false, leb-true, eqb-true}
-use Rattle.rows.proofs.Bools.{and-parts}
-use Rattle.rows.proofs.BelowLaws.{none-any}
-use Rattle.igvm_defs.specs.Kinds.{kindOf, spans, lengthOk}
-use Rattle.igvm_defs.specs.Refusals.{isFault, inRow}
-use Rattle.igvm_defs.proofs.RefusalLaws.{row-refusal, orElse-first, fault-stop}
-use Rattle.sheet.specs.Head.{headOf, rowCount}
-use Rattle.sheet.specs.Table.{rowKind, rowLength, offsetOf}
-use Rattle.sheet.specs.Read.{codesOk, rowFault, endFault, rowsRefusal}
-use Rattle.sheet.specs.Walk.{Passed}
-use Rattle.sheet.proofs.Readable.{row-says, directive-list}
+use Rattle.rows.{proofs.Kit.{_≡_, refl, Bool, true, false, _&&_, List, ℕ, _+_, _-_, _<_, _≤_, zero-add, arith, eqb, leb, ltb, length, ltb-true, ltb-false, leb-true, eqb-true}, proofs.Bools.and-parts, proofs.BelowLaws.none-any}
+use Rattle.igvm_defs.{specs.Kinds.{kindOf, spans, lengthOk}, specs.Refusals.{isFault, inRow}, proofs.RefusalLaws.{row-refusal, orElse-first, fault-stop}}
+use Rattle.sheet.{specs.Head.{headOf, rowCount}, specs.Table.{rowKind, rowLength, offsetOf}, specs.Read.{codesOk, rowFault, endFault, rowsRefusal}, specs.Walk.Passed, proofs.Readable.{row-says, directive-list}}
 use Rattle.sheet_rows.specs.Pages.{pageFits}
 
 -- a page of data among the directives whose body lies in the sheet

@@ -1,22 +1,11 @@
 -- Which refusal the verdict is, list after list, and the answer that it makes.
 -- Assumes nothing.
-use mathlib.Core.Path.{_≡_, _∙_}
-use mathlib.Core.Bool.{true, false}
-use mathlib.Core.List.{List}
-use Prim.Native.Nat.{ℕ, _+_}
-use Rattle.igvm_defs.specs.declared.Refusal.{Refusal}
-use Rattle.igvm_defs.specs.Refusals.{noRefusal, isFault, isRefusal, inRow, firstFault}
-use Rattle.igvm_defs.proofs.RefusalLaws.{row-refusal, else-refusal, no-fault-row, orElse-first, orElse-later}
-use Rattle.rows.proofs.Bools.{or-false-parts}
-use Rattle.sheet.specs.Head.{Limits, headOf, startFault, pageSizeFault}
-use Rattle.sheet.specs.Read.{rowsRefusal, sheetRefusal}
-use Rattle.sheet.proofs.ReadLaws.{start-stop, sheet-stop, sheet-end}
-use Rattle.rules.specs.Accepted.{NotRefused}
-use Rattle.rules.proofs.Acceptance.{headers-say}
+use Rattle.rows.{proofs.Kit.{_≡_, _∙_, true, false, List, ℕ, _+_}, proofs.Bools.or-false-parts}
+use Rattle.igvm_defs.{specs.declared.Refusal.Refusal, specs.Refusals.{noRefusal, isFault, isRefusal, inRow, firstFault}, proofs.RefusalLaws.{row-refusal, else-refusal, no-fault-row, orElse-first, orElse-later}}
+use Rattle.sheet.{specs.Head.{Limits, headOf, startFault, pageSizeFault}, specs.Read.{rowsRefusal, sheetRefusal}, proofs.ReadLaws.{start-stop, sheet-stop, sheet-end}}
+use Rattle.rules.{specs.Accepted.NotRefused, proofs.Acceptance.headers-say, specs.Verdict.{Headers, directiveFaults, noMatchingVpContext, platformsRefusal, initializationsRefusal, directivesRefusal, headersRefusal}}
 use Rattle.sheet_headers.specs.Headers.{sheetHeaders}
-use Rattle.rules.specs.Verdict.{Headers, directiveFaults, noMatchingVpContext, platformsRefusal, initializationsRefusal, directivesRefusal, headersRefusal}
-use Rattle.answers.specs.declared.Verdict.{Verdict}
-use Rattle.answers.specs.Verdict.{verdictRefusal, verdictOf}
+use Rattle.answers.{specs.declared.Verdict.Verdict, specs.Verdict.{verdictRefusal, verdictOf}}
 
 -- the answer to a file that is refused
 abbrev pub refusedVerdict : Refusal → Verdict

@@ -1,28 +1,13 @@
-use Rattle.acceptance.specs.Accepted.{ListsAccepted}
-use Rattle.initialization_check.specs.Record.{regionsIn, HoldsRows}
-use Rattle.sheet.specs.Head.{headOf}
-use Rattle.sheet_headers.proofs.HeaderLaws.{sheet-counts}
-use Rattle.acceptance.proofs.AcceptanceLaws.{table-room, platforms-none, initializations-none, none-passed}
-use Rattle.platform_accept.specs.Accepted.{HoldsCca}
-use Rattle.rules.specs.Verdict.{platformsRefusal}
-use Rattle.sheet_headers.specs.Headers.{sheetHeaders}
-use Rattle.sheet.proofs.ReadLaws.{read-none}
-use Rattle.sheet.proofs.Readable.{Bounds, start-says, started-bounds}
-use Rattle.sheet.specs.Head.{limits}
+use Rattle.rows.proofs.Kit.{now, arith, false, false≢true, _≡_, needs}
 use Rattle.igvm_defs.specs.Refusals.{isRefusal}
-use denote.Ref.{now}
-use native.Mathlib.Omega.{arith}
-use mathlib.Core.Bool.{false, false≢true}
-use mathlib.Core.Path.{_≡_, refl, sym, _∙_}
-use borrow.Author.Needs.{needs}
-use Rattle.acceptance.proofs.accept.Statement.{statement}
+use Rattle.sheet.{specs.Head.{headOf, limits}, proofs.ReadLaws.read-none, proofs.Readable.{Bounds, start-says, started-bounds}}
+use Rattle.rules.specs.Verdict.{platformsRefusal}
+use Rattle.initialization_check.specs.Record.{regionsIn, HoldsRows}
+use Rattle.sheet_headers.{proofs.HeaderLaws.sheet-counts, specs.Headers.sheetHeaders}
+use Rattle.platform_accept.specs.Accepted.{HoldsCca}
+use Rattle.acceptance.specs.Accepted.{ListsAccepted}
+use Rattle.acceptance.proofs.{AcceptanceLaws.{table-room, platforms-none, initializations-none, none-passed}, accept.Statement.statement}
 use Rattle.acceptance.proofs.accept.Tie as tie
-use Rattle.acceptance.proofs.accept.Reads as reads
-use Rattle.acceptance.proofs.accept.Lts as lts
-use Rattle.acceptance.proofs.accept_directives.Reads as accept-directives-reads
-use Rattle.initialization_accept.proofs.accept.Reads as accept-reads
-use Rattle.platform_accept.proofs.accept.Reads as accept-reads′
-use Rattle.sheet.proofs.Cursor.new.Reads as new-reads
 
 -- the bounds of the sheet
 bounds : (c : tie.Else2) → Bounds (now (c .before .before .before .before .before .before .before .before .before .before .before .before .before .before .args .s))
@@ -74,9 +59,6 @@ returns-2 c =
     (a .read, λ e. absurd (false≢true e), λ f. rw (st .1 .1) (none-passed _ _ (a .read) (let h = a .high in omega arith) f))
 
 -- src/lib.rt:105:9
-add-accept : tie.Need-add-accept
-add-accept c = search needs
-
 -- src/lib.rt:102:9
 accept-requires-2 : tie.Need-accept-requires-2
 accept-requires-2 c κs =
@@ -99,33 +81,12 @@ add-if3 : tie.Need-add-if3
 add-if3 c = let b = bounds (c .before .before .before .before .before .before .before .before .before .before .before .before .before .before .before .before .before .before .before .before .before .before .before) in omega (arith, b, c .before .before .before .before .before .before .before .before .before .before .before .before .before .before .before .before .before .before .before .before .before .before .before .before .before .before .before .before .before .before .before .before .before .before .before .before .before .pre .0)
 
 -- src/lib.rt:119:9
-same-length : tie.Need-same-length
-same-length c = search needs
-
 -- src/lib.rt:119:9
-same-length-2 : tie.Need-same-length-2
-same-length-2 c = search needs
-
 -- src/lib.rt:119:9
-same-length-3 : tie.Need-same-length-3
-same-length-3 c = search needs
-
 -- src/lib.rt:119:9
-same-length-4 : tie.Need-same-length-4
-same-length-4 c = search needs
-
 -- src/lib.rt:119:9
-same-length-5 : tie.Need-same-length-5
-same-length-5 c = search needs
-
 -- src/lib.rt:119:9
-same-length-6 : tie.Need-same-length-6
-same-length-6 c = search needs
-
 -- src/lib.rt:119:9
-same-length-7 : tie.Need-same-length-7
-same-length-7 c = search needs
-
 -- src/lib.rt:119:9
 returns-3 : tie.Need-returns-3
 returns-3 c = (c .before .before .before .before .before .before .before .before .before .before .before .before .before .before .before .before .before .accept2 .ensures .read, λ e. absurd (false≢true e), λ f. absurd (let t = c .if3 .taken in let p = c .before .before .before .before .before .before .before .before .before .before .before .before .before .before .before .before .before .before .before .before .before .before .before .before .before .before .before .before .before .before .before .before .before .before .before .before .before .before .before .pre .0 in omega (arith, p)))
@@ -146,33 +107,12 @@ accept-directives-requires c κs =
     )
 
 -- src/lib.rt:66:1
-same-length-8 : tie.Need-same-length-8
-same-length-8 c = search needs
-
 -- src/lib.rt:66:1
-same-length-9 : tie.Need-same-length-9
-same-length-9 c = search needs
-
 -- src/lib.rt:66:1
-same-length-10 : tie.Need-same-length-10
-same-length-10 c = search needs
-
 -- src/lib.rt:66:1
-same-length-11 : tie.Need-same-length-11
-same-length-11 c = search needs
-
 -- src/lib.rt:66:1
-same-length-12 : tie.Need-same-length-12
-same-length-12 c = search needs
-
 -- src/lib.rt:66:1
-same-length-13 : tie.Need-same-length-13
-same-length-13 c = search needs
-
 -- src/lib.rt:66:1
-same-length-14 : tie.Need-same-length-14
-same-length-14 c = search needs
-
 -- src/lib.rt:66:1
 returns-4 : tie.Need-returns-4
 returns-4 c =
@@ -181,29 +121,7 @@ returns-4 c =
 
 pub accept-spec : {M : Type 1} → statement M
 accept-spec =
-    tie.close
-    (tie.spec
-    new-requires
-    accept-requires
-    returns
-    returns-2
-    add-accept
-    accept-requires-2
-    add-if3
-    same-length
-    same-length-2
-    same-length-3
-    same-length-4
-    same-length-5
-    same-length-6
-    same-length-7
-    returns-3
-    accept-directives-requires
-    same-length-8
-    same-length-9
-    same-length-10
-    same-length-11
-    same-length-12
-    same-length-13
-    same-length-14
-    returns-4)
+    tie.close (tie.spec new-requires accept-requires returns returns-2 (λ c. search needs) accept-requires-2 add-if3 (λ c. search needs)
+    (λ c. search needs) (λ c. search needs) (λ c. search needs) (λ c. search needs) (λ c. search needs) (λ c. search needs) returns-3
+    accept-directives-requires (λ c. search needs) (λ c. search needs) (λ c. search needs) (λ c. search needs) (λ c. search needs)
+    (λ c. search needs) (λ c. search needs) returns-4)

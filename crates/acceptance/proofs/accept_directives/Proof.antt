@@ -1,16 +1,6 @@
-use Rattle.acceptance.proofs.AcceptanceLaws.{table-room, tables-held, all-none}
-use Rattle.rows.proofs.Bools.{and-parts}
-use borrow.Author.Tests.{leb-true, not-true}
-use native.Mathlib.Omega.{arith}
-use mathlib.Core.Bool.{false≢true}
-use mathlib.Core.Path.{_≡_, refl, sym, _∙_}
-use borrow.Author.Needs.{needs}
-use Rattle.acceptance.proofs.accept_directives.Statement.{statement}
+use Rattle.rows.{proofs.Bools.and-parts, proofs.Kit.{leb-true, not-true, arith, false≢true, refl, sym, _∙_}}
+use Rattle.acceptance.proofs.{AcceptanceLaws.{table-room, tables-held, all-none}, accept_directives.Statement.statement}
 use Rattle.acceptance.proofs.accept_directives.Tie as tie
-use Rattle.acceptance.proofs.accept_directives.Reads as reads
-use Rattle.acceptance.proofs.accept_directives.Lts as lts
-use Rattle.directive_accept.proofs.accept.Reads as accept-reads
-use Rattle.contexts.proofs.any_lacks.Reads as any-lacks-reads
 
 -- src/lib.rt:47:9
 accept-requires : tie.Need-accept-requires

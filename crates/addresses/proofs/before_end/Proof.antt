@@ -1,8 +1,4 @@
-use Rattle.rows.proofs.Bools.{ltb-same}
-use Prim.Native.Nat.{_+_, _-_}
-use borrow.Author.Tests.{lt-ltb}
-use mathlib.Core.Path.{sym}
-use native.Mathlib.Omega.{arith}
+use Rattle.rows.{proofs.Bools.ltb-same, proofs.Kit.{_+_, _-_, lt-ltb, sym, arith}}
 use Rattle.addresses.proofs.before_end.Statement.{statement}
 use Rattle.addresses.proofs.before_end.Tie as tie
 

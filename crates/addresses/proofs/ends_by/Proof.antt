@@ -1,8 +1,4 @@
-use Rattle.rows.proofs.Bools.{leb-same}
-use Prim.Native.Nat.{_+_, _-_}
-use borrow.Author.Tests.{lt-leb}
-use mathlib.Core.Path.{sym}
-use native.Mathlib.Omega.{arith}
+use Rattle.rows.{proofs.Bools.leb-same, proofs.Kit.{_+_, _-_, lt-leb, sym, arith}}
 use Rattle.addresses.proofs.ends_by.Statement.{statement}
 use Rattle.addresses.proofs.ends_by.Tie as tie
 

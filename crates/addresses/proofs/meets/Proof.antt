@@ -1,16 +1,7 @@
-use Prim.Native.Nat.{_+_, _-_}
-use native.Mathlib.Omega.{arith}
-use mathlib.Core.Bool.{Bool, _&&_, and-true}
-use mathlib.Core.Path.{ap₂}
-use borrow.Author.Needs.{needs}
-use borrow.Author.Tests.{lt-ltb}
-use Rattle.rows.proofs.Bools.{ltb-same}
+use Rattle.rows.{proofs.Kit.{_+_, _-_, arith, Bool, _&&_, and-true, ap₂, needs, lt-ltb}, proofs.Bools.ltb-same}
 use Rattle.addresses.specs.Addresses.{meets}
 use Rattle.addresses.proofs.meets.Statement.{statement}
 use Rattle.addresses.proofs.meets.Tie as tie
-
-sub-result : tie.Need-sub-result
-sub-result c = search needs
 
 returns : tie.Need-returns
 unfolding meets
@@ -20,9 +11,6 @@ returns c =
     let second = lt-ltb (a .base2) (a .base + a .size) (omega arith) in
     rw (second, and-true) first
 
-before-end-requires : tie.Need-before-end-requires
-before-end-requires c κs = search needs
-
 returns-2 : tie.Need-returns-2
 unfolding meets
 returns-2 c =
@@ -31,4 +19,4 @@ returns-2 c =
     ap₂ (λ (x y : Bool). x && y) (c .before-end .ensures) second
 
 pub meets-spec : {M : Type 1} → statement M
-meets-spec = tie.close (tie.spec sub-result returns before-end-requires returns-2)
+meets-spec = tie.close (tie.spec (λ c. search needs) returns (λ c κs. search needs) returns-2)

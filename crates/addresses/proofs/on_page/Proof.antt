@@ -1,5 +1,5 @@
+use Rattle.rows.proofs.Kit.{refl}
 use Rattle.addresses.specs.Addresses.{isMultiple}
-use mathlib.Core.Path.{refl}
 use Rattle.addresses.proofs.on_page.Statement.{statement}
 use Rattle.addresses.proofs.on_page.Tie as tie
 

@@ -1,24 +1,6 @@
-use mathlib.Core.Path.{_≡_}
-use native.Mathlib.Omega.{arith}
-use lib.ListN.{length, length-take}
-use borrow.Author.Needs.{needs}
+use Rattle.rows.proofs.Kit.{_≡_, arith, length, length-take, needs}
 use Rattle.admit_sheets.proofs.write_line.Statement.{statement}
 use Rattle.admit_sheets.proofs.write_line.Tie as tie
-
-slice-aggregate-read-full : tie.Need-slice-aggregate-read-full
-slice-aggregate-read-full c = search needs
-
-read-full-requires : tie.Need-read-full-requires
-read-full-requires c κs = search needs
-
-array-share-prefix-input : tie.Need-array-share-prefix-input
-array-share-prefix-input c = search needs
-
-slice-aggregate-admit-line : tie.Need-slice-aggregate-admit-line
-slice-aggregate-admit-line c = search needs
-
-admit-line-requires : tie.Need-admit-line-requires
-admit-line-requires c κs = search needs
 
 array-share-prefix-text : tie.Need-array-share-prefix-text
 array-share-prefix-text c =
@@ -32,22 +14,7 @@ slice-aggregate-write c =
     let h : length (line .result .bytes) ≡ 96 = search needs in
     simp length-take (omega (arith, line .ensures .1))
 
-write-requires : tie.Need-write-requires
-write-requires c κs = search needs
-
-returns : tie.Need-returns
-returns c = search needs
-
 pub write-line-spec : {M : Type 1} → statement M
 write-line-spec =
-    tie.close
-    (tie.spec
-    slice-aggregate-read-full
-    read-full-requires
-    array-share-prefix-input
-    slice-aggregate-admit-line
-    admit-line-requires
-    array-share-prefix-text
-    slice-aggregate-write
-    write-requires
-    returns)
+    tie.close (tie.spec (λ c. search needs) (λ c κs. search needs) (λ c. search needs) (λ c. search needs) (λ c κs. search needs)
+    array-share-prefix-text slice-aggregate-write (λ c κs. search needs) (λ c. search needs))

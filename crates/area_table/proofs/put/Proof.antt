@@ -1,20 +1,6 @@
-use native.Mathlib.Omega.{arith}
-use Rattle.area_table.proofs.AreaTableLaws.{holds-put-few, holds-put-node, holds-put-new, told-place, told-link, told-room}
-use borrow.Author.Needs.{needs}
-use Rattle.area_table.proofs.put.Statement.{statement}
+use Rattle.rows.proofs.Kit.{arith, needs}
+use Rattle.area_table.proofs.{AreaTableLaws.{holds-put-few, holds-put-node, holds-put-new, told-place, told-link, told-room}, put.Statement.statement}
 use Rattle.area_table.proofs.put.Tie as tie
-
-element-write-few : tie.Need-element-write-few
-element-write-few c = search needs
-
-returns : tie.Need-returns
-returns c = λ f h. holds-put-few _ _ _ _ f h _ _ (omega arith)
-
-place-of-requires : tie.Need-place-of-requires
-place-of-requires c κs = search needs
-
-mul-k : tie.Need-mul-k
-mul-k c = search needs
 
 element-copy-out-k : tie.Need-element-copy-out-k
 element-copy-out-k c =
@@ -40,9 +26,6 @@ returns-2 c =
     let s = c .before .before .before .before .before .before in
     let l = told-place _ _ _ _ _ (omega arith) (s .pre) _ p in
     λ f h. holds-put-node _ _ _ _ f h _ _ (omega arith) _ p l (λ z. omega arith)
-
-element-copy-out-m : tie.Need-element-copy-out-m
-element-copy-out-m c = search needs
 
 add-m : tie.Need-add-m
 add-m c =
@@ -74,17 +57,11 @@ element-write-states-2 c =
     let s = c .before .before .before .before .before .before .before in
     omega (arith, told-room _ _ _ _ _ (omega arith) (s .pre) _ p (omega arith))
 
-mul-links : tie.Need-mul-links
-mul-links c = search needs
-
 element-write-links : tie.Need-element-write-links
 element-write-links c =
     let p = c .before .before .before .place-of .ensures .0 in
     let s = c .before .before .before .before .before .before .before in
     told-place _ _ _ _ _ (omega arith) (s .pre) _ p
-
-element-write-links-2 : tie.Need-element-write-links-2
-element-write-links-2 c = search needs
 
 returns-3 : tie.Need-returns-3
 returns-3 c =
@@ -96,23 +73,6 @@ returns-3 c =
 
 pub put-spec : {M : Type 1} → statement M
 put-spec =
-    tie.close
-    (tie.spec
-    element-write-few
-    returns
-    place-of-requires
-    mul-k
-    element-copy-out-k
-    cast-k
-    element-write-states
-    returns-2
-    element-copy-out-m
-    add-m
-    cast-n
-    mul-areas
-    element-write-areas
-    element-write-states-2
-    mul-links
-    element-write-links
-    element-write-links-2
-    returns-3)
+    tie.close (tie.spec (λ c. search needs) (λ c. λ f h. holds-put-few _ _ _ _ f h _ _ (omega arith)) (λ c κs. search needs)
+    (λ c. search needs) element-copy-out-k cast-k element-write-states returns-2 (λ c. search needs) add-m cast-n mul-areas
+    element-write-areas element-write-states-2 (λ c. search needs) element-write-links (λ c. search needs) returns-3)

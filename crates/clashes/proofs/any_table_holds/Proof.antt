@@ -1,12 +1,4 @@
-use mathlib.Core.Bool.{Bool, false, _||_, _&&_}
-use mathlib.Core.Path.{_≡_, refl, ap₂}
-use Prim.Native.Nat.{_-_, _≤_}
-use native.Mathlib.Omega.{arith}
-use denote.Ref.{now}
-use borrow.Author.Needs.{needs}
-use lib.ListN.{getD}
-use Rattle.rows.specs.Below.{anyBelow}
-use Rattle.rows.proofs.BelowLaws.{any-more}
+use Rattle.rows.{proofs.Kit.{Bool, false, _||_, _&&_, _≡_, refl, ap₂, _-_, _≤_, arith, now, needs, getD}, specs.Below.anyBelow, proofs.BelowLaws.any-more}
 use Rattle.clashes.specs.Clashes.{anyTableHolds}
 use Rattle.clashes.proofs.any_table_holds.Statement.{statement}
 use Rattle.clashes.proofs.any_table_holds.Tie as tie
@@ -21,39 +13,6 @@ loop-holds : tie.Need-loop-holds Inv-loop μ-loop
 unfolding anyBelow
 loop-holds c = (search needs, refl)
 
-shared-slice-read-found : tie.Need-shared-slice-read-found Inv-loop μ-loop
-shared-slice-read-found c = search needs
-
-mul-shares : tie.Need-mul-shares Inv-loop μ-loop
-mul-shares c = search needs
-
-shared-slice-read-shares : tie.Need-shared-slice-read-shares Inv-loop μ-loop
-shared-slice-read-shares c = search needs
-
-shares-requires : tie.Need-shares-requires Inv-loop μ-loop
-shares-requires c κs = search needs
-
-mul-contains : tie.Need-mul-contains Inv-loop μ-loop
-mul-contains c = search needs
-
-shared-slice-read-contains : tie.Need-shared-slice-read-contains Inv-loop μ-loop
-shared-slice-read-contains c = search needs
-
-mul-contains-2 : tie.Need-mul-contains-2 Inv-loop μ-loop
-mul-contains-2 c = search needs
-
-shared-slice-read-contains-2 : tie.Need-shared-slice-read-contains-2 Inv-loop μ-loop
-shared-slice-read-contains-2 c = search needs
-
-contains-requires : tie.Need-contains-requires Inv-loop μ-loop
-contains-requires c κs = search needs
-
-add-i : tie.Need-add-i Inv-loop μ-loop
-add-i c = search needs
-
-loop-less : tie.Need-loop-less Inv-loop μ-loop
-loop-less c = search needs
-
 loop-again : tie.Need-loop-again Inv-loop μ-loop
 loop-again c =
     let l = c .before .before .before .before .before .before .before .loop in
@@ -67,21 +26,6 @@ returns c =
 
 pub any-table-holds-spec : {M : Type 1} → statement M
 any-table-holds-spec =
-    tie.close
-    (tie.spec
-    Inv-loop
-    μ-loop
-    loop-holds
-    shared-slice-read-found
-    mul-shares
-    shared-slice-read-shares
-    shares-requires
-    mul-contains
-    shared-slice-read-contains
-    mul-contains-2
-    shared-slice-read-contains-2
-    contains-requires
-    add-i
-    loop-less
-    loop-again
-    returns)
+    tie.close (tie.spec Inv-loop μ-loop loop-holds (λ c. search needs) (λ c. search needs) (λ c. search needs) (λ c κs. search needs)
+    (λ c. search needs) (λ c. search needs) (λ c. search needs) (λ c. search needs) (λ c κs. search needs) (λ c. search needs)
+    (λ c. search needs) loop-again returns)

@@ -1,11 +1,4 @@
-use mathlib.Core.Bool.{Bool, _||_}
-use mathlib.Core.Path.{_≡_, refl, sym, ap₂}
-use Prim.Native.Nat.{_-_, _≤_}
-use native.Mathlib.Omega.{arith}
-use borrow.Author.Needs.{needs}
-use borrow.Author.Tests.{not-true, not-false}
-use Rattle.rows.specs.Below.{anyBelow}
-use Rattle.rows.proofs.BelowLaws.{none-any, any-more}
+use Rattle.rows.{proofs.Kit.{Bool, _||_, _≡_, refl, sym, ap₂, _-_, _≤_, arith, needs, not-true, not-false}, specs.Below.anyBelow, proofs.BelowLaws.{none-any, any-more}}
 use Rattle.clashes.specs.Clashes.{anyTablesShare}
 use Rattle.clashes.proofs.any_tables_share.Statement.{statement}
 use Rattle.clashes.proofs.any_tables_share.Tie as tie
@@ -23,24 +16,6 @@ loop-holds : tie.Need-loop-holds Inv-loop μ-loop
 unfolding anyBelow
 loop-holds c = (search needs, refl)
 
-shared-slice-read-found : tie.Need-shared-slice-read-found Inv-loop μ-loop
-shared-slice-read-found c = search needs
-
-mul-shares : tie.Need-mul-shares Inv-loop μ-loop
-mul-shares c = search needs
-
-shared-slice-read-shares : tie.Need-shared-slice-read-shares Inv-loop μ-loop
-shared-slice-read-shares c = search needs
-
-shares-requires : tie.Need-shares-requires Inv-loop μ-loop
-shares-requires c κs = search needs
-
-add-i : tie.Need-add-i Inv-loop μ-loop
-add-i c = search needs
-
-loop-less : tie.Need-loop-less Inv-loop μ-loop
-loop-less c = search needs
-
 loop-again : tie.Need-loop-again Inv-loop μ-loop
 loop-again c =
     let e = c .before .before .before .before .before in
@@ -54,17 +29,5 @@ returns-2 c =
 
 pub any-tables-share-spec : {M : Type 1} → statement M
 any-tables-share-spec =
-    tie.close
-    (tie.spec
-    Inv-loop
-    μ-loop
-    returns
-    loop-holds
-    shared-slice-read-found
-    mul-shares
-    shared-slice-read-shares
-    shares-requires
-    add-i
-    loop-less
-    loop-again
-    returns-2)
+    tie.close (tie.spec Inv-loop μ-loop returns loop-holds (λ c. search needs) (λ c. search needs) (λ c. search needs)
+    (λ c κs. search needs) (λ c. search needs) (λ c. search needs) loop-again returns-2)

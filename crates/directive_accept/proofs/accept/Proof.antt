@@ -1,11 +1,6 @@
-use Rattle.directive_accept.proofs.NamedLaws.{rows-first, plain-first}
-use borrow.Author.Needs.{needs}
-use Rattle.directive_accept.proofs.accept.Statement.{statement}
+use Rattle.rows.proofs.Kit.{needs}
+use Rattle.directive_accept.proofs.{NamedLaws.{rows-first, plain-first}, accept.Statement.statement}
 use Rattle.directive_accept.proofs.accept.Tie as tie
-use Rattle.directive_accept.proofs.accept.Reads as reads
-use Rattle.directive_accept.proofs.accept.Lts as lts
-use Rattle.directive_accept.proofs.past_areas.Reads as past-areas-reads
-use Rattle.directive_accept.proofs.past_plain.Reads as past-plain-reads
 
 -- src/lib.rt:500:9
 past-plain-requires : tie.Need-past-plain-requires
@@ -21,12 +16,8 @@ past-areas-requires c κs =
     (p .0, (p .1 .0, plain-first _ _ (p .1 .1 .1) _ _ (c .before .before .before .past-plain .ensures)))
 
 -- src/lib.rt:502:9
-returns : tie.Need-returns
-returns c = search needs
-
 -- src/lib.rt:483:1
-returns-2 : tie.Need-returns-2
-returns-2 c = let a = c .before .before .past-plain .ensures in (a .rows, a .masks)
-
 pub accept-spec : {M : Type 1} → statement M
-accept-spec = tie.close (tie.spec past-plain-requires past-areas-requires returns returns-2)
+accept-spec =
+    tie.close (tie.spec past-plain-requires past-areas-requires (λ c. search needs)
+    (λ c. let a = c .before .before .past-plain .ensures in (a .rows, a .masks)))

@@ -1,19 +1,7 @@
-use Rattle.directive_accept.proofs.NamedLaws.{areas-none, areas-kept, areas-next, areas-onward}
-use denote.Ref.{now}
-use lib.ListN.{length}
-use native.Mathlib.Omega.{arith}
-use borrow.Author.Tests.{not-false, not-true}
-use Prim.Native.Nat.{_-_, _+_, _*_, _≤_}
+use Rattle.rows.proofs.Kit.{now, length, arith, not-false, not-true, _-_, _+_, _*_, _≤_}
 use Rattle.directive_accept.specs.Accepted.{AreasPassed}
-use Rattle.directive_accept.proofs.past_area_rows.Statement.{statement}
+use Rattle.directive_accept.proofs.{NamedLaws.{areas-none, areas-kept, areas-next, areas-onward}, past_area_rows.Statement.statement}
 use Rattle.directive_accept.proofs.past_area_rows.Tie as tie
-use Rattle.directive_accept.proofs.past_area_rows.Reads as reads
-use Rattle.directive_accept.proofs.past_area_rows.Lts as lts
-use Rattle.directive_row.proofs.area_row.Reads as area-row-reads
-use Rattle.directive_accept.proofs.past_uses.Reads as past-uses-reads
-use Rattle.sheet.proofs.kind_at.Reads as kind-at-reads
-use Rattle.sheet.proofs.length_at.Reads as length-at-reads
-use Rattle.sheet.proofs.part.Reads as part-reads
 
 abbrev Inv-loop : tie.InvT-loop
 Inv-loop s end masks gpas sizes tables n few₀ links₀ areas₀ states₀ c₀ few links areas states c = AreasPassed s c₀ c few links areas states
@@ -48,21 +36,9 @@ loop-holds : tie.Need-loop-holds Inv-loop μ-loop
 loop-holds c = let p = c .before .before .before .before .before .pre in areas-none _ _ _ _ _ _ (p .0 .1) (p .0 .2) (p .1 .1)
 
 -- src/lib.rt:413:13
-kind-at-requires : tie.Need-kind-at-requires Inv-loop μ-loop
-kind-at-requires c κs = table c
-
 -- src/lib.rt:414:13
-length-at-requires : tie.Need-length-at-requires Inv-loop μ-loop
-length-at-requires c κs = table (c .before)
-
 -- src/lib.rt:415:12
-sub-if2 : tie.Need-sub-if2 Inv-loop μ-loop
-sub-if2 c = c .before .before .before .before .loop .inv .read .room
-
 -- src/lib.rt:416:13
-returns : tie.Need-returns Inv-loop μ-loop
-returns c = c .before .before .before .before .before .loop .inv
-
 -- src/lib.rt:420:13
 part-requires : tie.Need-part-requires Inv-loop μ-loop
 part-requires c κs = let r = c .before .before .before .before .before .loop .inv .read .room in omega arith
@@ -99,26 +75,8 @@ loop-again : tie.Need-loop-again Inv-loop μ-loop
 loop-again c = areas-onward _ _ _ _ _ _ _ _ (next (c .before .before .before .before .before)) (c .past-uses .ensures)
 
 -- src/lib.rt:391:1
-returns-3 : tie.Need-returns-3 Inv-loop μ-loop
-returns-3 c = c .before .before .loop .inv
-
 pub past-area-rows-spec : {M : Type 1} → statement M
 past-area-rows-spec =
-    tie.close
-    (tie.spec
-    Inv-loop
-    μ-loop
-    loop-holds
-    kind-at-requires
-    length-at-requires
-    sub-if2
-    returns
-    part-requires
-    area-row-requires
-    returns-2
-    add-t20
-    add-t21
-    past-uses-requires
-    loop-less
-    loop-again
-    returns-3)
+    tie.close (tie.spec Inv-loop μ-loop loop-holds (λ c κs. table c) (λ c κs. table (c .before))
+    (λ c. c .before .before .before .before .loop .inv .read .room) (λ c. c .before .before .before .before .before .loop .inv)
+    part-requires area-row-requires returns-2 add-t20 add-t21 past-uses-requires loop-less loop-again (λ c. c .before .before .loop .inv))

@@ -1,20 +1,7 @@
-use Rattle.directive_accept.proofs.AcceptedLaws.{onward-none, onward-page}
-use denote.Ref.{now}
-use lib.ListN.{length}
-use mathlib.Core.Path.{sym, _∙_}
-use native.Mathlib.Omega.{arith}
-use borrow.Author.Tests.{not-false}
-use borrow.Author.Needs.{needs}
-use Prim.Native.Nat.{_-_, _+_, _*_, _≤_}
+use Rattle.rows.proofs.Kit.{now, length, sym, _∙_, arith, not-false, needs, _-_, _+_, _*_, _≤_}
 use Rattle.directive_accept.specs.Accepted.{Onward}
-use Rattle.directive_accept.proofs.past_pages.Statement.{statement}
+use Rattle.directive_accept.proofs.{AcceptedLaws.{onward-none, onward-page}, past_pages.Statement.statement}
 use Rattle.directive_accept.proofs.past_pages.Tie as tie
-use Rattle.directive_accept.proofs.past_pages.Reads as reads
-use Rattle.directive_accept.proofs.past_pages.Lts as lts
-use Rattle.directive_body.proofs.page_data.Reads as page-data-reads
-use Rattle.sheet.proofs.kind_at.Reads as kind-at-reads
-use Rattle.sheet.proofs.length_at.Reads as length-at-reads
-use Rattle.sheet.proofs.part.Reads as part-reads
 
 abbrev Inv-loop : tie.InvT-loop
 Inv-loop s end c₀ c = Onward s c₀ c
@@ -27,37 +14,16 @@ table : (c : tie.Then1 Inv-loop μ-loop) → 24 + 8 * c .before .before .loop .c
 table c = let l = c .if1 .taken in omega (arith, c .before .before .before .before .pre)
 
 -- src/lib.rt:133:5
-loop-holds : tie.Need-loop-holds Inv-loop μ-loop
-loop-holds c = onward-none _ _ (c .before .pre .1) (c .before .pre .2)
-
 -- src/lib.rt:136:13
-length-at-requires : tie.Need-length-at-requires Inv-loop μ-loop
-length-at-requires c κs = table c
-
 -- src/lib.rt:137:12
-sub-if2 : tie.Need-sub-if2 Inv-loop μ-loop
-sub-if2 c = c .before .before .before .loop .inv .read .room
-
 -- src/lib.rt:138:13
-returns : tie.Need-returns Inv-loop μ-loop
-returns c = c .before .before .before .before .loop .inv
-
 -- src/lib.rt:140:12
-kind-at-requires : tie.Need-kind-at-requires Inv-loop μ-loop
-kind-at-requires c κs = table (c .before .before)
-
 -- src/lib.rt:141:13
-returns-2 : tie.Need-returns-2 Inv-loop μ-loop
-returns-2 c = c .before .before .before .before .before .before .loop .inv
-
 -- src/lib.rt:143:23
 part-requires : tie.Need-part-requires Inv-loop μ-loop
 part-requires c κs = let r = c .before .before .before .before .before .before .loop .inv .read .room in omega arith
 
 -- src/lib.rt:143:13
-page-data-requires : tie.Need-page-data-requires Inv-loop μ-loop
-page-data-requires c κs = search needs
-
 -- src/lib.rt:144:13
 returns-3 : tie.Need-returns-3 Inv-loop μ-loop
 returns-3 c = c .before .before .before .before .before .before .before .before .before .loop .inv
@@ -83,26 +49,9 @@ loop-again c =
     onward-page _ _ _ (c .before .before .before .before .before .before .before .before .before .loop .inv) _ (c .before .before .before .before .before .before .length-at .ensures .0) (omega arith) (omega (arith, st .pre)) (sym (c .before .before .before .before .kind-at .ensures) ∙ c .before .before .before .if3 .left) _ (c .before .before .part .ensures) (λ arch. c .before .page-data .ensures arch (not-false _ (c .if4 .left)))
 
 -- src/lib.rt:128:1
-returns-4 : tie.Need-returns-4 Inv-loop μ-loop
-returns-4 c = c .before .before .loop .inv
-
 pub past-pages-spec : {M : Type 1} → statement M
 past-pages-spec =
-    tie.close
-    (tie.spec
-    Inv-loop
-    μ-loop
-    loop-holds
-    length-at-requires
-    sub-if2
-    returns
-    kind-at-requires
-    returns-2
-    part-requires
-    page-data-requires
-    returns-3
-    add-t9
-    add-t10
-    loop-less
-    loop-again
-    returns-4)
+    tie.close (tie.spec Inv-loop μ-loop (λ c. onward-none _ _ (c .before .pre .1) (c .before .pre .2)) (λ c κs. table c)
+    (λ c. c .before .before .before .loop .inv .read .room) (λ c. c .before .before .before .before .loop .inv)
+    (λ c κs. table (c .before .before)) (λ c. c .before .before .before .before .before .before .loop .inv) part-requires
+    (λ c κs. search needs) returns-3 add-t9 add-t10 loop-less loop-again (λ c. c .before .before .loop .inv))

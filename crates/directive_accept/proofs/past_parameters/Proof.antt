@@ -1,22 +1,7 @@
-use Rattle.directive_accept.proofs.NamedLaws.{onward-parameter}
-use Rattle.directive_accept.proofs.AcceptedLaws.{onward-none}
+use Rattle.rows.proofs.Kit.{_-_, _+_, _*_, _≤_, now, length, sym, _∙_, arith, not-false, needs}
 use Rattle.directive_accept.specs.Accepted.{Onward}
-use Prim.Native.Nat.{_-_, _+_, _*_, _≤_}
-use denote.Ref.{now}
-use lib.ListN.{length}
-use mathlib.Core.Path.{sym, _∙_}
-use native.Mathlib.Omega.{arith}
-use borrow.Author.Tests.{not-false}
-use borrow.Author.Needs.{needs}
-use Rattle.directive_accept.proofs.past_parameters.Statement.{statement}
+use Rattle.directive_accept.proofs.{NamedLaws.onward-parameter, AcceptedLaws.onward-none, past_parameters.Statement.statement}
 use Rattle.directive_accept.proofs.past_parameters.Tie as tie
-use Rattle.directive_accept.proofs.past_parameters.Reads as reads
-use Rattle.directive_accept.proofs.past_parameters.Lts as lts
-use Rattle.directive_row.proofs.parameter_row.Reads as parameter-row-reads
-use Rattle.directive_check.proofs.is_parameter.Reads as is-parameter-reads
-use Rattle.sheet.proofs.kind_at.Reads as kind-at-reads
-use Rattle.sheet.proofs.length_at.Reads as length-at-reads
-use Rattle.sheet.proofs.part.Reads as part-reads
 
 abbrev Inv-loop : tie.InvT-loop
 Inv-loop s end few links areas states c₀ c = Onward s c₀ c
@@ -29,41 +14,17 @@ abbrev μ-loop : tie.MeasureT-loop
 table : (c : tie.Then1 Inv-loop μ-loop) → 24 + 8 * c .before .before .loop .c .row ≤ length (now (c .before .before .before .before .args .s))
 table c = let l = c .if1 .taken in omega (arith, c .before .before .before .before .pre .0)
 
-loop-holds : tie.Need-loop-holds Inv-loop μ-loop
-loop-holds c = onward-none _ _ (c .before .pre .0 .1) (c .before .pre .0 .2)
-
 -- src/lib.rt:351:13
-length-at-requires : tie.Need-length-at-requires Inv-loop μ-loop
-length-at-requires c κs = table c
-
 -- src/lib.rt:352:12
-sub-if2 : tie.Need-sub-if2 Inv-loop μ-loop
-sub-if2 c = c .before .before .before .loop .inv .read .room
-
 -- src/lib.rt:353:13
-returns : tie.Need-returns Inv-loop μ-loop
-returns c = c .before .before .before .before .loop .inv
-
 -- src/lib.rt:355:38
-kind-at-requires : tie.Need-kind-at-requires Inv-loop μ-loop
-kind-at-requires c κs = table (c .before .before)
-
 -- src/lib.rt:355:13
-is-parameter-requires : tie.Need-is-parameter-requires Inv-loop μ-loop
-is-parameter-requires c κs = search needs
-
 -- src/lib.rt:356:13
-returns-2 : tie.Need-returns-2 Inv-loop μ-loop
-returns-2 c = c .before .before .before .before .before .before .before .loop .inv
-
 -- src/lib.rt:358:27
 part-requires : tie.Need-part-requires Inv-loop μ-loop
 part-requires c κs = let r = c .before .before .before .before .before .before .before .loop .inv .read .room in omega arith
 
 -- src/lib.rt:358:13
-parameter-row-requires : tie.Need-parameter-row-requires Inv-loop μ-loop
-parameter-row-requires c κs = search needs
-
 -- src/lib.rt:359:13
 returns-3 : tie.Need-returns-3 Inv-loop μ-loop
 returns-3 c = c .before .before .before .before .before .before .before .before .before .before .loop .inv
@@ -91,27 +52,9 @@ loop-again c =
     (λ earlier h. c .before .parameter-row .ensures _ earlier _ p h (not-false _ (c .if4 .left)))
 
 -- src/lib.rt:335:1
-returns-4 : tie.Need-returns-4 Inv-loop μ-loop
-returns-4 c = c .before .before .loop .inv
-
 pub past-parameters-spec : {M : Type 1} → statement M
 past-parameters-spec =
-    tie.close
-    (tie.spec
-    Inv-loop
-    μ-loop
-    loop-holds
-    length-at-requires
-    sub-if2
-    returns
-    kind-at-requires
-    is-parameter-requires
-    returns-2
-    part-requires
-    parameter-row-requires
-    returns-3
-    add-t13
-    add-t14
-    loop-less
-    loop-again
-    returns-4)
+    tie.close (tie.spec Inv-loop μ-loop (λ c. onward-none _ _ (c .before .pre .0 .1) (c .before .pre .0 .2)) (λ c κs. table c)
+    (λ c. c .before .before .before .loop .inv .read .room) (λ c. c .before .before .before .before .loop .inv)
+    (λ c κs. table (c .before .before)) (λ c κs. search needs) (λ c. c .before .before .before .before .before .before .before .loop .inv)
+    part-requires (λ c κs. search needs) returns-3 add-t13 add-t14 loop-less loop-again (λ c. c .before .before .loop .inv))

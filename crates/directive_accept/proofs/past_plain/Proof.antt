@@ -1,19 +1,7 @@
-use Rattle.directive_accept.proofs.AcceptedLaws.{plain-none, plain-next, plain-onward}
+use Rattle.rows.proofs.Kit.{_-_, _+_, _*_, _≤_, now, length, arith, not-false, not-true}
 use Rattle.directive_accept.specs.Accepted.{PlainPassed}
-use Prim.Native.Nat.{_-_, _+_, _*_, _≤_}
-use denote.Ref.{now}
-use lib.ListN.{length}
-use native.Mathlib.Omega.{arith}
-use borrow.Author.Tests.{not-false, not-true}
-use Rattle.directive_accept.proofs.past_plain.Statement.{statement}
+use Rattle.directive_accept.proofs.{AcceptedLaws.{plain-none, plain-next, plain-onward}, past_plain.Statement.statement}
 use Rattle.directive_accept.proofs.past_plain.Tie as tie
-use Rattle.directive_accept.proofs.past_plain.Reads as reads
-use Rattle.directive_accept.proofs.past_plain.Lts as lts
-use Rattle.directive_accept.proofs.past_like.Reads as past-like-reads
-use Rattle.directive_row.proofs.plain_row.Reads as plain-row-reads
-use Rattle.sheet.proofs.kind_at.Reads as kind-at-reads
-use Rattle.sheet.proofs.length_at.Reads as length-at-reads
-use Rattle.sheet.proofs.part.Reads as part-reads
 
 abbrev Inv-loop : tie.InvT-loop
 Inv-loop s end x64 contexts₀ c₀ contexts c = PlainPassed s c₀ c contexts
@@ -42,25 +30,10 @@ next c =
     let p = c .before .plain-row .ensures in
     plain-next _ _ _ _ _ a _ (c .before .before .before .before .before .length-at .ensures .0) (omega arith) (omega (arith, st .pre .0)) _ (c .before .before .before .before .before .before .kind-at .ensures) _ (c .before .before .before .part .ensures) (p .0 _ (st .pre .0 .2) (not-false _ (c .if3 .left))) (p .1 .1)
 
-loop-holds : tie.Need-loop-holds Inv-loop μ-loop
-loop-holds c = let a = c .before .pre .1 in plain-none _ _ _ (a .0) (a .1)
-
 -- src/lib.rt:180:13
-kind-at-requires : tie.Need-kind-at-requires Inv-loop μ-loop
-kind-at-requires c κs = table c
-
 -- src/lib.rt:181:13
-length-at-requires : tie.Need-length-at-requires Inv-loop μ-loop
-length-at-requires c κs = table (c .before)
-
 -- src/lib.rt:182:12
-sub-if2 : tie.Need-sub-if2 Inv-loop μ-loop
-sub-if2 c = c .before .before .before .before .loop .inv .rows .read .room
-
 -- src/lib.rt:183:13
-returns : tie.Need-returns Inv-loop μ-loop
-returns c = c .before .before .before .before .before .loop .inv
-
 -- src/lib.rt:185:29
 part-requires : tie.Need-part-requires Inv-loop μ-loop
 part-requires c κs = let r = c .before .before .before .before .before .loop .inv .rows .read .room in omega arith
@@ -93,30 +66,11 @@ loop-less : tie.Need-loop-less Inv-loop μ-loop
 loop-less c = let l = c .before .before .before .before .before .before .before .before .if1 .taken in let o = c .past-like .ensures .low in omega arith
 
 -- src/lib.rt:177:5
-loop-again : tie.Need-loop-again Inv-loop μ-loop
-loop-again c = plain-onward _ _ _ _ _ (next (c .before)) (c .past-like .ensures)
-
 -- src/lib.rt:171:1
-returns-3 : tie.Need-returns-3 Inv-loop μ-loop
-returns-3 c = c .before .before .loop .inv
-
 pub past-plain-spec : {M : Type 1} → statement M
 past-plain-spec =
-    tie.close
-    (tie.spec
-    Inv-loop
-    μ-loop
-    loop-holds
-    kind-at-requires
-    length-at-requires
-    sub-if2
-    returns
-    part-requires
-    plain-row-requires
-    returns-2
-    add-t13
-    add-t14
-    past-like-requires
-    loop-less
-    loop-again
-    returns-3)
+    tie.close (tie.spec Inv-loop μ-loop (λ c. let a = c .before .pre .1 in plain-none _ _ _ (a .0) (a .1)) (λ c κs. table c)
+    (λ c κs. table (c .before)) (λ c. c .before .before .before .before .loop .inv .rows .read .room)
+    (λ c. c .before .before .before .before .before .loop .inv) part-requires plain-row-requires returns-2 add-t13 add-t14
+    past-like-requires loop-less (λ c. plain-onward _ _ _ _ _ (next (c .before)) (c .past-like .ensures))
+    (λ c. c .before .before .loop .inv))

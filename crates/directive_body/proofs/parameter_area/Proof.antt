@@ -1,31 +1,10 @@
-use mathlib.Core.Bool.{false≢true}
-use native.Mathlib.Omega.{arith}
-use borrow.Author.Tests.{leb-true}
-use Rattle.rows.proofs.Bools.{and-parts}
-use denote.Ref.{now}
-use lib.ListN.{length}
-use Prim.Native.Nat.{_≤_}
-use Rattle.directive_body.proofs.SoundLaws.{area-sound}
-use borrow.Author.Needs.{needs}
-use Rattle.directive_body.proofs.parameter_area.Statement.{statement}
+use Rattle.rows.{proofs.Kit.{false≢true, arith, leb-true, now, length, _≤_, needs}, proofs.Bools.and-parts}
+use Rattle.directive_body.proofs.{SoundLaws.area-sound, parameter_area.Statement.statement}
 use Rattle.directive_body.proofs.parameter_area.Tie as tie
-use Rattle.directive_body.proofs.parameter_area.Reads as reads
-use Rattle.directive_body.proofs.parameter_area.Lts as lts
-use Rattle.addresses.proofs.on_page.Reads as on-page-reads
-use Rattle.le.proofs.u64_at.Reads as u64-at-reads
 
 -- src/lib.rt:42:9
-returns : tie.Need-returns
-returns c = (λ arch e. absurd (false≢true e), λ e. absurd (false≢true e))
-
 -- src/lib.rt:44:9
-u64-at-requires : tie.Need-u64-at-requires
-u64-at-requires c κs = search needs
-
 -- src/lib.rt:45:5
-on-page-requires : tie.Need-on-page-requires
-on-page-requires c κs = search needs
-
 -- src/lib.rt:37:1
 returns-2 : tie.Need-returns-2
 returns-2 c =
@@ -37,4 +16,6 @@ returns-2 c =
     )
 
 pub parameter-area-spec : {M : Type 1} → statement M
-parameter-area-spec = tie.close (tie.spec returns u64-at-requires on-page-requires returns-2)
+parameter-area-spec =
+    tie.close (tie.spec (λ c. (λ arch e. absurd (false≢true e), λ e. absurd (false≢true e))) (λ c κs. search needs) (λ c κs. search needs)
+    returns-2)

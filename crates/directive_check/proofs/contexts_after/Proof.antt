@@ -1,17 +1,9 @@
 -- `contexts_after` meets its contract. Assumes nothing.
-use Prim.Native.Nat.{ℕ}
-use mathlib.Core.Path.{_≡_, refl, sym}
-use mathlib.Core.List.{List, [], _∷_}
 use types.Run.{OneOf, miss}
-use denote.Enum.Declared.{tagOf}
-use Rattle.directive_header.specs.declared.IgvmDirectiveHeader.{IgvmDirectiveHeader}
-use Rattle.directive_header.specs.declared.IgvmDirectiveHeader.the-variants.{PageData, ParameterArea, VpCount, EnvironmentInfo, Srat, Madt, Slit, Pptt, MmioRanges, MemoryMap, CommandLine, DeviceTree, RequiredMemory, SnpVpContext, X64NativeVpContext, X64VbsVpContext, AArch64VbsVpContext, AArch64CcaVpContext, ParameterInsert, ErrorRange, SnpIdBlock, VbsMeasurement}
-use Rattle.directive_header.proofs.IgvmDirectiveHeader.{the-type}
-use mathlib.Core.Bool.{false, or-false}
+use Rattle.rows.proofs.Kit.{ℕ, _≡_, refl, sym, List, [], _∷_, tagOf, false, or-false, needs}
+use Rattle.directive_header.{specs.declared.IgvmDirectiveHeader.IgvmDirectiveHeader, specs.declared.IgvmDirectiveHeader.the-variants.{PageData, ParameterArea, VpCount, EnvironmentInfo, Srat, Madt, Slit, Pptt, MmioRanges, MemoryMap, CommandLine, DeviceTree, RequiredMemory, SnpVpContext, X64NativeVpContext, X64VbsVpContext, AArch64VbsVpContext, AArch64CcaVpContext, ParameterInsert, ErrorRange, SnpIdBlock, VbsMeasurement}, proofs.IgvmDirectiveHeader.the-type}
 use Rattle.rules.specs.Directives.{isContext}
-use Rattle.directive_check.proofs.DirectiveRecordLaws.{holds-next}
-use borrow.Author.Needs.{needs}
-use Rattle.directive_check.proofs.contexts_after.Statement.{statement}
+use Rattle.directive_check.proofs.{DirectiveRecordLaws.holds-next, contexts_after.Statement.statement}
 use Rattle.directive_check.proofs.contexts_after.Tie as tie
 
 abbrev others : List ℕ
@@ -42,18 +34,6 @@ no-context level bits (ErrorRange a b c) o = refl
 no-context level bits (SnpIdBlock a b) o = refl
 no-context level bits (VbsMeasurement a b) o = refl
 
-enum-known-h : tie.Need-enum-known-h
-enum-known-h c = search needs
-
-with-context-requires : tie.Need-with-context-requires
-with-context-requires c κs = search needs
-
-enum-known-h-2 : tie.Need-enum-known-h-2
-enum-known-h-2 c = search needs
-
-with-context-requires-2 : tie.Need-with-context-requires-2
-with-context-requires-2 c κs = search needs
-
 returns : tie.Need-returns
 returns c =
     let a = c .before .before .before .before .args in
@@ -77,12 +57,4 @@ returns-3 c =
 
 pub contexts-after-spec : {M : Type 1} → statement M
 contexts-after-spec =
-    tie.close
-    (tie.spec
-    enum-known-h
-    with-context-requires
-    enum-known-h-2
-    with-context-requires-2
-    returns
-    returns-2
-    returns-3)
+    tie.close (tie.spec (λ c. search needs) (λ c κs. search needs) (λ c. search needs) (λ c κs. search needs) returns returns-2 returns-3)

@@ -1,12 +1,5 @@
-use Prim.Native.Nat.{ℕ, _≤_}
-use native.Mathlib.Omega.{arith}
-use mathlib.Core.Bool.{true}
-use mathlib.Core.Path.{_≡_, refl, sym, _∙_}
-use borrow.Author.Needs.{needs}
-use borrow.Author.Tests.{eq-eqb, ne-eqb, leb-true}
-use Rattle.rows.proofs.Bools.{and-parts}
-use Rattle.igvm_defs.specs.Kinds.{kindOf, spans}
-use Rattle.igvm_defs.proofs.Runs.{each, _⨾_}
+use Rattle.rows.{proofs.Kit.{ℕ, arith, true, _≡_, refl, sym, _∙_, needs, eq-eqb, ne-eqb, leb-true}, proofs.Bools.and-parts}
+use Rattle.igvm_defs.{specs.Kinds.{kindOf, spans}, proofs.Runs.{each, _⨾_}}
 use Rattle.directive_header.specs.Fields.{isParameter, areaNamed}
 use Rattle.directive_check.specs.Record.{howNamed}
 use Rattle.directive_check.proofs.naming.Statement.{statement}
@@ -30,9 +23,6 @@ unfolding howNamed areaNamed
 returns c =
     let e = eq-eqb _ _ (c .before .if1 .taken) in
     (rw e, rw e (c .u32-at .ensures))
-
-is-parameter-requires : tie.Need-is-parameter-requires
-is-parameter-requires c κs = search needs
 
 u32-at-requires-2 : tie.Need-u32-at-requires-2
 u32-at-requires-2 c κs =
@@ -69,13 +59,4 @@ returns-4 c =
 
 pub naming-spec : {M : Type 1} → statement M
 naming-spec =
-    tie.close
-    (tie.spec
-    u32-at-requires
-    returns
-    is-parameter-requires
-    u32-at-requires-2
-    returns-2
-    u32-at-requires-3
-    returns-3
-    returns-4)
+    tie.close (tie.spec u32-at-requires returns (λ c κs. search needs) u32-at-requires-2 returns-2 u32-at-requires-3 returns-3 returns-4)

@@ -1,20 +1,7 @@
 -- `parameter_area_fault` meets its contract. Assumes nothing.
-use borrow.Author.Needs.{needs}
+use Rattle.rows.proofs.Kit.{needs}
 use Rattle.directive_check.proofs.parameter_area_fault.Statement.{statement}
 use Rattle.directive_check.proofs.parameter_area_fault.Tie as tie
 
-on-page-requires : tie.Need-on-page-requires
-on-page-requires c κs = search needs
-
-refuse-requires : tie.Need-refuse-requires
-refuse-requires c κs = search needs
-
-refuse-requires-2 : tie.Need-refuse-requires-2
-refuse-requires-2 c κs = search needs
-
-returns : tie.Need-returns
-returns c = cc
-
 pub parameter-area-fault-spec : {M : Type 1} → statement M
-parameter-area-fault-spec =
-    tie.close (tie.spec on-page-requires refuse-requires refuse-requires-2 returns)
+parameter-area-fault-spec = tie.close (tie.spec (λ c κs. search needs) (λ c κs. search needs) (λ c κs. search needs) (λ c. cc))

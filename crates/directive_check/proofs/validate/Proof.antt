@@ -1,15 +1,9 @@
 -- `validate` meets its contract. Assumes nothing.
-use Prim.Native.Nat.{ℕ}
-use mathlib.Core.Path.{_≡_, refl}
-use mathlib.Core.List.{List, [], _∷_}
 use types.Run.{OneOf, miss}
-use denote.Enum.Declared.{tagOf}
-use Rattle.directive_header.specs.declared.IgvmDirectiveHeader.{IgvmDirectiveHeader}
-use Rattle.directive_header.specs.declared.IgvmDirectiveHeader.the-variants.{PageData, ParameterArea, VpCount, EnvironmentInfo, Srat, Madt, Slit, Pptt, MmioRanges, MemoryMap, CommandLine, DeviceTree, RequiredMemory, SnpVpContext, X64NativeVpContext, X64VbsVpContext, AArch64VbsVpContext, AArch64CcaVpContext, ParameterInsert, ErrorRange, SnpIdBlock, VbsMeasurement}
-use Rattle.directive_header.proofs.IgvmDirectiveHeader.{the-type}
+use Rattle.rows.proofs.Kit.{ℕ, _≡_, refl, List, [], _∷_, tagOf, needs}
 use Rattle.igvm_defs.specs.Refusals.{noFault}
+use Rattle.directive_header.{specs.declared.IgvmDirectiveHeader.IgvmDirectiveHeader, specs.declared.IgvmDirectiveHeader.the-variants.{PageData, ParameterArea, VpCount, EnvironmentInfo, Srat, Madt, Slit, Pptt, MmioRanges, MemoryMap, CommandLine, DeviceTree, RequiredMemory, SnpVpContext, X64NativeVpContext, X64VbsVpContext, AArch64VbsVpContext, AArch64CcaVpContext, ParameterInsert, ErrorRange, SnpIdBlock, VbsMeasurement}, proofs.IgvmDirectiveHeader.the-type}
 use Rattle.rules.specs.Directives.{validateDirective}
-use borrow.Author.Needs.{needs}
 use Rattle.directive_check.proofs.validate.Statement.{statement}
 use Rattle.directive_check.proofs.validate.Tie as tie
 
@@ -41,83 +35,16 @@ accepts (ErrorRange a b c) o = absurd (miss others 19 tt o)
 accepts (SnpIdBlock a b) o = refl
 accepts (VbsMeasurement a b) o = refl
 
-enum-known-h : tie.Need-enum-known-h
-enum-known-h c = search needs
-
-page-data-fault-requires : tie.Need-page-data-fault-requires
-page-data-fault-requires c κs = search needs
-
-enum-known-h-2 : tie.Need-enum-known-h-2
-enum-known-h-2 c = search needs
-
-parameter-area-fault-requires : tie.Need-parameter-area-fault-requires
-parameter-area-fault-requires c κs = search needs
-
-enum-known-h-3 : tie.Need-enum-known-h-3
-enum-known-h-3 c = search needs
-
-required-memory-fault-requires : tie.Need-required-memory-fault-requires
-required-memory-fault-requires c κs = search needs
-
-enum-known-h-4 : tie.Need-enum-known-h-4
-enum-known-h-4 c = search needs
-
-gpa-fault-requires : tie.Need-gpa-fault-requires
-gpa-fault-requires c κs = search needs
-
-enum-known-h-5 : tie.Need-enum-known-h-5
-enum-known-h-5 c = search needs
-
-gpa-fault-requires-2 : tie.Need-gpa-fault-requires-2
-gpa-fault-requires-2 c κs = search needs
-
-enum-known-h-6 : tie.Need-enum-known-h-6
-enum-known-h-6 c = search needs
-
-gpa-fault-requires-3 : tie.Need-gpa-fault-requires-3
-gpa-fault-requires-3 c κs = search needs
-
-returns : tie.Need-returns
-returns c = rw (c .before .before .h .given .1) (c .page-data-fault .ensures)
-
 returns-2 : tie.Need-returns-2
 returns-2 c = rw (c .before .before .h2 .given .1) (c .parameter-area-fault .ensures)
 
 returns-3 : tie.Need-returns-3
 returns-3 c = rw (c .before .before .h3 .given .1) (c .required-memory-fault .ensures)
 
-returns-4 : tie.Need-returns-4
-returns-4 c = rw (c .before .before .h4 .given .1) (c .gpa-fault .ensures)
-
-returns-5 : tie.Need-returns-5
-returns-5 c = rw (c .before .before .h5 .given .1) (c .gpa-fault2 .ensures)
-
-returns-6 : tie.Need-returns-6
-returns-6 c = rw (c .before .before .h6 .given .1) (c .gpa-fault3 .ensures)
-
-returns-7 : tie.Need-returns-7
-returns-7 c = accepts (c .before .args .h) (c .match .keys7)
-
 pub validate-spec : {M : Type 1} → statement M
 validate-spec =
-    tie.close
-    (tie.spec
-    enum-known-h
-    page-data-fault-requires
-    enum-known-h-2
-    parameter-area-fault-requires
-    enum-known-h-3
-    required-memory-fault-requires
-    enum-known-h-4
-    gpa-fault-requires
-    enum-known-h-5
-    gpa-fault-requires-2
-    enum-known-h-6
-    gpa-fault-requires-3
-    returns
-    returns-2
-    returns-3
-    returns-4
-    returns-5
-    returns-6
-    returns-7)
+    tie.close (tie.spec (λ c. search needs) (λ c κs. search needs) (λ c. search needs) (λ c κs. search needs) (λ c. search needs)
+    (λ c κs. search needs) (λ c. search needs) (λ c κs. search needs) (λ c. search needs) (λ c κs. search needs) (λ c. search needs)
+    (λ c κs. search needs) (λ c. rw (c .before .before .h .given .1) (c .page-data-fault .ensures)) returns-2 returns-3
+    (λ c. rw (c .before .before .h4 .given .1) (c .gpa-fault .ensures)) (λ c. rw (c .before .before .h5 .given .1) (c .gpa-fault2 .ensures))
+    (λ c. rw (c .before .before .h6 .given .1) (c .gpa-fault3 .ensures)) (λ c. accepts (c .before .args .h) (c .match .keys7)))

@@ -1,8 +1,5 @@
-use mathlib.Core.Path.{_≡_}
-use native.Mathlib.Omega.{arith}
-use Rattle.igvm_defs.specs.Kinds.{kindOf, spans}
-use Rattle.igvm_defs.proofs.KindLaws.{directive-kind}
-use Rattle.igvm_defs.proofs.Runs.{past-run}
+use Rattle.rows.proofs.Kit.{_≡_, arith}
+use Rattle.igvm_defs.{specs.Kinds.{kindOf, spans}, proofs.KindLaws.directive-kind, proofs.Runs.past-run}
 use Rattle.directive_header.specs.Directives.{directiveOf}
 use Rattle.directive_header.proofs.decode.Statement.{statement}
 use Rattle.directive_header.proofs.decode.Tie as tie
@@ -191,49 +188,9 @@ returns-22 c = rw (last-kind (c .before)) (c .vbs-measurement .ensures)
 
 pub decode-spec : {M : Type 1} → statement M
 decode-spec =
-    tie.close
-    (tie.spec
-    page-data-requires
-    parameter-area-requires
-    parameter-requires
-    parameter-requires-2
-    parameter-requires-3
-    parameter-requires-4
-    parameter-requires-5
-    parameter-requires-6
-    parameter-requires-7
-    parameter-requires-8
-    parameter-requires-9
-    parameter-requires-10
-    required-memory-requires
-    snp-vp-context-requires
-    x64-native-vp-context-requires
-    x64-vbs-vp-context-requires
-    aarch64-vbs-vp-context-requires
-    aarch64-cca-vp-context-requires
-    parameter-insert-requires
-    error-range-requires
-    snp-id-block-requires
-    vbs-measurement-requires
-    returns
-    returns-2
-    returns-3
-    returns-4
-    returns-5
-    returns-6
-    returns-7
-    returns-8
-    returns-9
-    returns-10
-    returns-11
-    returns-12
-    returns-13
-    returns-14
-    returns-15
-    returns-16
-    returns-17
-    returns-18
-    returns-19
-    returns-20
-    returns-21
-    returns-22)
+    tie.close (tie.spec page-data-requires parameter-area-requires parameter-requires parameter-requires-2 parameter-requires-3
+    parameter-requires-4 parameter-requires-5 parameter-requires-6 parameter-requires-7 parameter-requires-8 parameter-requires-9
+    parameter-requires-10 required-memory-requires snp-vp-context-requires x64-native-vp-context-requires x64-vbs-vp-context-requires
+    aarch64-vbs-vp-context-requires aarch64-cca-vp-context-requires parameter-insert-requires error-range-requires snp-id-block-requires
+    vbs-measurement-requires returns returns-2 returns-3 returns-4 returns-5 returns-6 returns-7 returns-8 returns-9 returns-10 returns-11
+    returns-12 returns-13 returns-14 returns-15 returns-16 returns-17 returns-18 returns-19 returns-20 returns-21 returns-22)

@@ -1,15 +1,9 @@
-use mathlib.Core.Path.{_≡_, sym, _∙_}
-use borrow.Author.Needs.{needs}
-use borrow.Author.Tests.{ne-eqb}
-use denote.Ref.{now}
+use Rattle.rows.{proofs.Kit.{_≡_, needs, ne-eqb, now}, specs.Rows.before}
 use Rattle.sheet.proofs.Readable.{body-least}
-use Rattle.sheet_headers.specs.Headers.{sheetHeaders}
 use Rattle.directive_header.specs.Fields.{areaOf}
-use Rattle.rows.specs.Rows.{before}
-use Rattle.directive_check.specs.Record.{howOf, areaNumber}
-use Rattle.directive_check.proofs.DirectiveRecordLaws.{bad-area-says}
-use Rattle.directive_pass.proofs.DirectivePass.{at-directive, row-how, row-area}
-use Rattle.directive_pass.proofs.bad_area.Statement.{statement}
+use Rattle.directive_check.{specs.Record.{howOf, areaNumber}, proofs.DirectiveRecordLaws.bad-area-says}
+use Rattle.sheet_headers.specs.Headers.{sheetHeaders}
+use Rattle.directive_pass.proofs.{DirectivePass.{at-directive, row-how, row-area}, bad_area.Statement.statement}
 use Rattle.directive_pass.proofs.bad_area.Tie as tie
 
 -- how the row's header names an area, and which
@@ -37,13 +31,7 @@ naming-requires c κs =
     rw (c .before .kind .ensures, c .body .ensures, p .3) (body-least _ _ (at-directive _ (p .0) _ (p .2) .row))
 
 -- src/lib.rt:64:9
-returns : tie.Need-returns
-returns c = rw (bad-area-says _ _, ← named (c .before .before) .0, c .if1 .taken)
-
 -- src/lib.rt:66:9
-known-area-requires : tie.Need-known-area-requires
-known-area-requires c κs = search needs
-
 -- src/lib.rt:68:9
 returns-2 : tie.Need-returns-2
 returns-2 c =
@@ -59,12 +47,5 @@ returns-3 c =
 
 pub bad-area-spec : {M : Type 1} → statement M
 bad-area-spec =
-    tie.close
-    (tie.spec
-    kind-requires
-    body-requires
-    naming-requires
-    returns
-    known-area-requires
-    returns-2
-    returns-3)
+    tie.close (tie.spec kind-requires body-requires naming-requires
+    (λ c. rw (bad-area-says _ _, ← named (c .before .before) .0, c .if1 .taken)) (λ c κs. search needs) returns-2 returns-3)

@@ -1,8 +1,5 @@
-use Prim.Native.Nat.{ℕ}
-use mathlib.Core.Path.{sym, _∙_}
-use mathlib.Core.List.{List, [], _∷_}
 use types.Run.{miss}
-use borrow.Author.Needs.{needs}
+use Rattle.rows.proofs.Kit.{ℕ, sym, _∙_, List, [], _∷_, needs}
 use Rattle.rules.proofs.Acceptance.{inside-table}
 use Rattle.directive_pass.proofs.inside_table.Statement.{statement}
 use Rattle.directive_pass.proofs.inside_table.Tie as tie
@@ -11,12 +8,6 @@ use Rattle.directive_pass.proofs.inside_table.Tie as tie
 abbrev others : List ℕ
 others = 0 ∷ 1 ∷ 2 ∷ 3 ∷ 4 ∷ 5 ∷ 6 ∷ 7 ∷ 8 ∷ 9 ∷ 10 ∷ 11 ∷ 12 ∷ 13 ∷ 14 ∷ 15 ∷ 16 ∷ 17 ∷ 19 ∷ 20 ∷ 21 ∷ []
 
-enum-known-h : tie.Need-enum-known-h
-enum-known-h c = search needs
-
-any-table-holds-requires : tie.Need-any-table-holds-requires
-any-table-holds-requires c κs = search needs
-
 returns : tie.Need-returns
 returns c = λ xs held. rw (c .before .before .before .before .before .before .h .given .1) (c .any-table-holds .ensures ∙ held _ _)
 
@@ -24,4 +15,4 @@ returns-2 : tie.Need-returns-2
 returns-2 c = λ xs held. sym (inside-table xs (c .before .args .h) .1 (λ p e j r l o. absurd (miss others 18 tt (rw e at (c .match .keys2)))))
 
 pub inside-table-spec : {M : Type 1} → statement M
-inside-table-spec = tie.close (tie.spec enum-known-h any-table-holds-requires returns returns-2)
+inside-table-spec = tie.close (tie.spec (λ c. search needs) (λ c κs. search needs) returns returns-2)

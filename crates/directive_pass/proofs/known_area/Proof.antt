@@ -1,18 +1,9 @@
-use Prim.Native.Nat.{_-_, _+_, _<_, _≤_}
-use native.Mathlib.Omega.{arith}
-use mathlib.Core.Path.{_≡_, refl, sym, ap, _∙_}
-use borrow.Author.Needs.{needs}
-use denote.Ref.{now}
-use Rattle.rows.specs.Below.{anyBelow}
-use Rattle.rows.specs.Rows.{any, before}
-use Rattle.sheet.specs.Head.{headOf}
-use Rattle.sheet.specs.Walk.{cursorAt}
-use Rattle.sheet.proofs.Readable.{body-least}
-use Rattle.sheet_headers.specs.Headers.{sheetHeaders}
+use Rattle.rows.{proofs.Kit.{_-_, _+_, _<_, _≤_, arith, _≡_, refl, needs, now}, specs.Below.anyBelow, specs.Rows.{any, before}}
+use Rattle.sheet.{specs.Head.headOf, specs.Walk.cursorAt, proofs.Readable.body-least}
 use Rattle.rules.specs.Directives.{allocates, inserts}
+use Rattle.sheet_headers.specs.Headers.{sheetHeaders}
 use Rattle.directive_pass.specs.Passed.{firstDirective}
-use Rattle.directive_pass.proofs.DirectivePass.{AtDirective, at-directive, cursor-first, cursor-more, row-how, row-area, allocated-more, inserted-more}
-use Rattle.directive_pass.proofs.known_area.Statement.{statement}
+use Rattle.directive_pass.proofs.{DirectivePass.{AtDirective, at-directive, cursor-first, cursor-more, row-how, row-area, allocated-more, inserted-more}, known_area.Statement.statement}
 use Rattle.directive_pass.proofs.known_area.Tie as tie
 
 abbrev Inv-loop : tie.InvT-loop
@@ -30,15 +21,6 @@ known c =
     let st = c .before .before .before .before .before .before in
     at-directive (now (st .args .s)) (st .pre .0) (c .before .loop .i) (let n = st .pre .2 in let l = c .loop-test .taken in omega arith)
 
-cast-cursor-at : tie.Need-cast-cursor-at Inv-loop μ-loop
-cast-cursor-at c = search needs
-
-cast-cursor-at-2 : tie.Need-cast-cursor-at-2 Inv-loop μ-loop
-cast-cursor-at-2 c = search needs
-
-add-cursor-at : tie.Need-add-cursor-at Inv-loop μ-loop
-add-cursor-at c = search needs
-
 cursor-at-requires : tie.Need-cursor-at-requires Inv-loop μ-loop
 cursor-at-requires c κs = let st = c .before .before .before in (st .pre .0, rw (st .pre .1) (omega arith))
 
@@ -48,12 +30,6 @@ loop-holds c =
     let st = c .before .before .before .before in
     (omega arith, rw (c .cursor-at .ensures, st .pre .1) (cursor-first (now (st .args .s))), refl, refl)
 
-kind-requires : tie.Need-kind-requires Inv-loop μ-loop
-kind-requires c κs = rw (c .before .loop .inv .1) (known c .row)
-
-body-requires : tie.Need-body-requires Inv-loop μ-loop
-body-requires c κs = rw (c .before .before .loop .inv .1) (known (c .before) .row)
-
 naming-requires : tie.Need-naming-requires Inv-loop μ-loop
 naming-requires c κs =
     let e = c .before .before .before .loop .inv .1 in
@@ -61,12 +37,6 @@ naming-requires c κs =
 
 next-requires : tie.Need-next-requires Inv-loop μ-loop
 next-requires c κs = rw (c .before .before .before .before .before .before .before .loop .inv .1) (known (c .before .before .before .before .before .before) .row)
-
-add-i : tie.Need-add-i Inv-loop μ-loop
-add-i c = search needs
-
-loop-less : tie.Need-loop-less Inv-loop μ-loop
-loop-less c = search needs
 
 loop-again : tie.Need-loop-again Inv-loop μ-loop
 loop-again c =
@@ -88,20 +58,6 @@ returns c = let l = c .before .loop in let z : l .i ≡ c .before .before .befor
 
 pub known-area-spec : {M : Type 1} → statement M
 known-area-spec =
-    tie.close
-    (tie.spec
-    Inv-loop
-    μ-loop
-    cast-cursor-at
-    cast-cursor-at-2
-    add-cursor-at
-    cursor-at-requires
-    loop-holds
-    kind-requires
-    body-requires
-    naming-requires
-    next-requires
-    add-i
-    loop-less
-    loop-again
-    returns)
+    tie.close (tie.spec Inv-loop μ-loop (λ c. search needs) (λ c. search needs) (λ c. search needs) cursor-at-requires loop-holds
+    (λ c κs. rw (c .before .loop .inv .1) (known c .row)) (λ c κs. rw (c .before .before .loop .inv .1) (known (c .before) .row))
+    naming-requires next-requires (λ c. search needs) (λ c. search needs) loop-again returns)

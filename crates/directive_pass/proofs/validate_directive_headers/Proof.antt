@@ -1,17 +1,9 @@
-use Prim.Native.Nat.{_-_, _+_}
-use native.Mathlib.Omega.{arith}
-use mathlib.Core.Path.{_≡_, refl, sym, ap, _∙_}
-use borrow.Author.Needs.{needs}
-use denote.Ref.{now}
-use Rattle.sheet.specs.declared.SheetHead.{SheetHead}
-use Rattle.sheet.specs.Head.{headOf}
-use Rattle.sheet.specs.Walk.{cursorAt}
-use Rattle.sheet_headers.specs.Headers.{sheetHeaders}
-use Rattle.sheet_headers.proofs.HeaderLaws.{sheet-counts}
+use Rattle.rows.proofs.Kit.{_-_, _+_, arith, _≡_, sym, ap, _∙_, needs, now}
+use Rattle.sheet.{specs.declared.SheetHead.SheetHead, specs.Head.headOf, specs.Walk.cursorAt}
 use Rattle.directive_check.specs.Record.{DirectiveStepped}
+use Rattle.sheet_headers.{specs.Headers.sheetHeaders, proofs.HeaderLaws.sheet-counts}
 use Rattle.directive_pass.specs.Passed.{firstDirective}
-use Rattle.directive_pass.proofs.DirectivePass.{Reached, reached-bounds, regions-room, holds-tables, reached-row, reached-list, reached-header, reached-next, reached-stop, reached-end}
-use Rattle.directive_pass.proofs.validate_directive_headers.Statement.{statement}
+use Rattle.directive_pass.proofs.{DirectivePass.{Reached, reached-bounds, regions-room, holds-tables, reached-row, reached-list, reached-header, reached-next, reached-stop, reached-end}, validate_directive_headers.Statement.statement}
 use Rattle.directive_pass.proofs.validate_directive_headers.Tie as tie
 
 abbrev Inv-loop : tie.InvT-loop
@@ -36,24 +28,6 @@ stepped c =
     let bad = rw (← h) at (b .bad-area .ensures) in
     rw (← r .arch)
     (c .step .ensures (f .initializations) (f .directives) (l .loop .i) h bad (c .before .inside-table .ensures (f .initializations) (holds-tables _ (f .initializations) (r .regions))) (r .contexts))
-
-cast-first : tie.Need-cast-first Inv-loop μ-loop
-cast-first c = search needs
-
-cast-first-2 : tie.Need-cast-first-2 Inv-loop μ-loop
-cast-first-2 c = search needs
-
-add-first : tie.Need-add-first Inv-loop μ-loop
-add-first c = search needs
-
-cast-n : tie.Need-cast-n Inv-loop μ-loop
-cast-n c = search needs
-
-revision-requires : tie.Need-revision-requires Inv-loop μ-loop
-revision-requires c κs = search needs
-
-arch-requires : tie.Need-arch-requires Inv-loop μ-loop
-arch-requires c κs = search needs
 
 sub-i : tie.Need-sub-i Inv-loop μ-loop
 sub-i c =
@@ -99,12 +73,6 @@ directive-at-requires c κs =
 inside-table-requires : tie.Need-inside-table-requires Inv-loop μ-loop
 inside-table-requires c κs = regions-room (c .before .before .before .before .before .before .before .before .loop .inv)
 
-step-requires : tie.Need-step-requires Inv-loop μ-loop
-step-requires c κs = search needs
-
-is-fault-requires : tie.Need-is-fault-requires Inv-loop μ-loop
-is-fault-requires c κs = search needs
-
 add-in-row : tie.Need-add-in-row Inv-loop μ-loop
 add-in-row c =
     let t = c .before .before .before .before .before .before .before .before .before .before .before .before .before in
@@ -118,9 +86,6 @@ add-in-row-2 c =
     let b = reached-bounds (t .before .loop .inv) in
     let l = t .loop-test .taken in
     omega arith
-
-in-row-requires : tie.Need-in-row-requires Inv-loop μ-loop
-in-row-requires c κs = search needs
 
 returns : tie.Need-returns Inv-loop μ-loop
 returns c =
@@ -150,15 +115,6 @@ loop-again c =
     let e = sym (c .before .before .is-fault .ensures) ∙ c .before .if1 .left in
     rw (c .next2 .ensures) (reached-next (t .before .loop .inv) (t .loop-test .taken) (stepped d) e)
 
-no-matching-vp-context-requires : tie.Need-no-matching-vp-context-requires Inv-loop μ-loop
-no-matching-vp-context-requires c κs = regions-room (c .before .loop .inv)
-
-refuse-requires : tie.Need-refuse-requires Inv-loop μ-loop
-refuse-requires c κs = search needs
-
-in-row-requires-2 : tie.Need-in-row-requires-2 Inv-loop μ-loop
-in-row-requires-2 c κs = search needs
-
 returns-2 : tie.Need-returns-2 Inv-loop μ-loop
 returns-2 c =
     let l = c .before .before .before in
@@ -167,32 +123,7 @@ returns-2 c =
 
 pub validate-directive-headers-spec : {M : Type 1} → statement M
 validate-directive-headers-spec =
-    tie.close
-    (tie.spec
-    Inv-loop
-    μ-loop
-    cast-first
-    cast-first-2
-    add-first
-    cast-n
-    revision-requires
-    arch-requires
-    sub-i
-    loop-holds
-    bad-area-requires
-    directive-at-requires
-    inside-table-requires
-    step-requires
-    is-fault-requires
-    add-in-row
-    add-in-row-2
-    in-row-requires
-    returns
-    next-requires
-    add-i
-    loop-less
-    loop-again
-    no-matching-vp-context-requires
-    refuse-requires
-    in-row-requires-2
-    returns-2)
+    tie.close (tie.spec Inv-loop μ-loop (λ c. search needs) (λ c. search needs) (λ c. search needs) (λ c. search needs)
+    (λ c κs. search needs) (λ c κs. search needs) sub-i loop-holds bad-area-requires directive-at-requires inside-table-requires
+    (λ c κs. search needs) (λ c κs. search needs) add-in-row add-in-row-2 (λ c κs. search needs) returns next-requires add-i loop-less
+    loop-again (λ c κs. regions-room (c .before .loop .inv)) (λ c κs. search needs) (λ c κs. search needs) returns-2)

@@ -1,28 +1,10 @@
-use Prim.Native.Nat.{_≤_}
-use Rattle.directive_row.proofs.AreaRowLaws.{area-named, insert-named, parameter-named, is-parameter}
-use native.Mathlib.Omega.{arith}
-use mathlib.Core.Bool.{false≢true}
-use borrow.Author.Needs.{needs}
-use Rattle.directive_row.proofs.area_row.Statement.{statement}
+use Rattle.rows.proofs.Kit.{_≤_, arith, false≢true, needs}
+use Rattle.directive_row.proofs.{AreaRowLaws.{area-named, insert-named, parameter-named, is-parameter}, area_row.Statement.statement}
 use Rattle.directive_row.proofs.area_row.Tie as tie
-use Rattle.directive_row.proofs.area_row.Reads as reads
-use Rattle.directive_row.proofs.area_row.Lts as lts
-use Rattle.directive_row.proofs.parameter_area_row.Reads as parameter-area-row-reads
-use Rattle.directive_row.proofs.parameter_insert_row.Reads as parameter-insert-row-reads
-use Rattle.directive_row.proofs.parameter_row.Reads as parameter-row-reads
 
 -- src/lib.rt:259:15
-parameter-area-row-requires : tie.Need-parameter-area-row-requires
-parameter-area-row-requires c κs = search needs
-
 -- src/lib.rt:261:15
-parameter-insert-row-requires : tie.Need-parameter-insert-row-requires
-parameter-insert-row-requires c κs = search needs
-
 -- src/lib.rt:260:20
-parameter-row-requires : tie.Need-parameter-row-requires
-parameter-row-requires c κs = search needs
-
 -- src/lib.rt:240:1
 returns : tie.Need-returns
 returns c = (λ arch is earlier h k e. area-named arch is earlier _ _ _ _ _ _ (c .before .before .before .before .before .match .keys1) (c .parameter-area-row .ensures .0 arch earlier k e), c .parameter-area-row .ensures .1)
@@ -42,22 +24,9 @@ returns-3 c =
     (λ arch is earlier t q e. parameter-named arch is earlier _ p _ _ _ _ _ (c .parameter-row .ensures arch earlier _ p q e), λ known e h. h)
 
 -- src/lib.rt:244:1
-returns-4 : tie.Need-returns-4
-returns-4 c = (λ arch is earlier h k e. absurd (false≢true e), λ known e h. h)
-
 -- src/lib.rt:244:1
-returns-5 : tie.Need-returns-5
-returns-5 c = (λ arch is earlier h k e. absurd (false≢true e), λ known e h. h)
-
 pub area-row-spec : {M : Type 1} → statement M
 area-row-spec =
-    tie.close
-    (tie.spec
-    parameter-area-row-requires
-    parameter-insert-row-requires
-    parameter-row-requires
-    returns
-    returns-2
-    returns-3
-    returns-4
-    returns-5)
+    tie.close (tie.spec (λ c κs. search needs) (λ c κs. search needs) (λ c κs. search needs) returns returns-2 returns-3
+    (λ c. (λ arch is earlier h k e. absurd (false≢true e), λ known e h. h))
+    (λ c. (λ arch is earlier h k e. absurd (false≢true e), λ known e h. h)))

@@ -1,43 +1,14 @@
-use Rattle.directive_row.proofs.AreaRowLaws.{table-says, area-row}
+use Rattle.rows.proofs.Kit.{not-false, arith, false≢true, sym, _∙_, needs}
 use Rattle.directive_row.specs.Row.{stateOf}
-use borrow.Author.Tests.{not-false}
-use native.Mathlib.Omega.{arith}
-use mathlib.Core.Bool.{false≢true}
-use mathlib.Core.Path.{sym, _∙_}
-use borrow.Author.Needs.{needs}
-use Rattle.directive_row.proofs.parameter_area_row.Statement.{statement}
+use Rattle.directive_row.proofs.{AreaRowLaws.{table-says, area-row}, parameter_area_row.Statement.statement}
 use Rattle.directive_row.proofs.parameter_area_row.Tie as tie
-use Rattle.directive_row.proofs.parameter_area_row.Reads as reads
-use Rattle.directive_row.proofs.parameter_area_row.Lts as lts
-use Rattle.area_table.proofs.put.Reads as put-reads
-use Rattle.area_table.proofs.state_of.Reads as state-of-reads
-use Rattle.directive_body.proofs.parameter_area.Reads as parameter-area-reads
-use Rattle.le.proofs.u32_at.Reads as u32-at-reads
 
 -- src/lib.rt:144:9
-parameter-area-requires : tie.Need-parameter-area-requires
-parameter-area-requires c κs = search needs
-
 -- src/lib.rt:145:9
-returns : tie.Need-returns
-returns c = (λ arch earlier h e. absurd (false≢true e), λ known e h. h)
-
 -- src/lib.rt:147:9
-u32-at-requires : tie.Need-u32-at-requires
-u32-at-requires c κs = c .before .parameter-area .ensures .1 (not-false _ (c .if1 .left))
-
 -- src/lib.rt:148:8
-state-of-requires : tie.Need-state-of-requires
-state-of-requires c κs = search needs
-
 -- src/lib.rt:149:9
-returns-2 : tie.Need-returns-2
-returns-2 c = (λ arch earlier h e. absurd (false≢true e), λ known e h. h)
-
 -- src/lib.rt:151:5
-put-requires : tie.Need-put-requires
-put-requires c κs = search needs
-
 -- src/lib.rt:136:1
 returns-3 : tie.Need-returns-3
 returns-3 c =
@@ -52,12 +23,6 @@ returns-3 c =
 
 pub parameter-area-row-spec : {M : Type 1} → statement M
 parameter-area-row-spec =
-    tie.close
-    (tie.spec
-    parameter-area-requires
-    returns
-    u32-at-requires
-    state-of-requires
-    returns-2
-    put-requires
-    returns-3)
+    tie.close (tie.spec (λ c κs. search needs) (λ c. (λ arch earlier h e. absurd (false≢true e), λ known e h. h))
+    (λ c κs. c .before .parameter-area .ensures .1 (not-false _ (c .if1 .left))) (λ c κs. search needs)
+    (λ c. (λ arch earlier h e. absurd (false≢true e), λ known e h. h)) (λ c κs. search needs) returns-3)

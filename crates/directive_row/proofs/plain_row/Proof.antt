@@ -1,42 +1,13 @@
-use Rattle.directive_row.proofs.PlainLaws.{page-plain, memory-plain, snp-plain, range-plain, native-plain, cca-plain, block-plain, measurement-plain, x64-plain, aarch64-plain, is-aarch64}
-use Rattle.rows.proofs.Bools.{and-parts}
-use mathlib.Core.Bool.{false≢true}
-use mathlib.Core.Path.{refl, sym, _∙_}
-use borrow.Author.Needs.{needs}
-use Rattle.directive_row.proofs.plain_row.Statement.{statement}
+use Rattle.rows.{proofs.Bools.and-parts, proofs.Kit.{false≢true, refl, sym, _∙_, needs}}
+use Rattle.directive_row.proofs.{PlainLaws.{page-plain, memory-plain, snp-plain, range-plain, native-plain, cca-plain, block-plain, measurement-plain, x64-plain, aarch64-plain, is-aarch64}, plain_row.Statement.statement}
 use Rattle.directive_row.proofs.plain_row.Tie as tie
-use Rattle.directive_row.proofs.plain_row.Reads as reads
-use Rattle.directive_row.proofs.plain_row.Lts as lts
-use Rattle.directive_body.proofs.error_range.Reads as error-range-reads
-use Rattle.directive_body.proofs.page_data.Reads as page-data-reads
-use Rattle.directive_body.proofs.required_memory.Reads as required-memory-reads
-use Rattle.directive_body.proofs.snp_vp_context.Reads as snp-vp-context-reads
-use Rattle.directive_row.proofs.vbs_context.Reads as vbs-context-reads
 
 -- src/lib.rt:109:15
-page-data-requires : tie.Need-page-data-requires
-page-data-requires c κs = search needs
-
 -- src/lib.rt:110:15
-required-memory-requires : tie.Need-required-memory-requires
-required-memory-requires c κs = search needs
-
 -- src/lib.rt:111:15
-snp-vp-context-requires : tie.Need-snp-vp-context-requires
-snp-vp-context-requires c κs = search needs
-
 -- src/lib.rt:113:21
-vbs-context-requires : tie.Need-vbs-context-requires
-vbs-context-requires c κs = search needs
-
 -- src/lib.rt:114:22
-vbs-context-requires-2 : tie.Need-vbs-context-requires-2
-vbs-context-requires-2 c κs = search needs
-
 -- src/lib.rt:116:15
-error-range-requires : tie.Need-error-range-requires
-error-range-requires c κs = search needs
-
 -- src/lib.rt:105:1
 returns : tie.Need-returns
 returns c = (λ arch x e. page-plain arch _ _ _ (c .before .match .keys1) (c .page-data .ensures arch e), (λ e. refl, c .before .before .before .pre))
@@ -83,22 +54,5 @@ returns-11 c = (λ arch x e. absurd (false≢true e), (λ e. refl, c .before .be
 
 pub plain-row-spec : {M : Type 1} → statement M
 plain-row-spec =
-    tie.close
-    (tie.spec
-    page-data-requires
-    required-memory-requires
-    snp-vp-context-requires
-    vbs-context-requires
-    vbs-context-requires-2
-    error-range-requires
-    returns
-    returns-2
-    returns-3
-    returns-4
-    returns-5
-    returns-6
-    returns-7
-    returns-8
-    returns-9
-    returns-10
-    returns-11)
+    tie.close (tie.spec (λ c κs. search needs) (λ c κs. search needs) (λ c κs. search needs) (λ c κs. search needs) (λ c κs. search needs)
+    (λ c κs. search needs) returns returns-2 returns-3 returns-4 returns-5 returns-6 returns-7 returns-8 returns-9 returns-10 returns-11)

@@ -1,4 +1,4 @@
-use mathlib.Core.Path.{refl}
+use Rattle.rows.proofs.Kit.{refl}
 use Rattle.igvm_defs.specs.Platforms.{isPlatformType, platformTypes}
 use Rattle.igvm_defs.proofs.is_platform_type.Statement.{statement}
 use Rattle.igvm_defs.proofs.is_platform_type.Tie as tie

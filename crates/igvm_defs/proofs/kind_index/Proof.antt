@@ -1,16 +1,11 @@
-use mathlib.Core.Path.{sym}
-use Rattle.igvm_defs.proofs.Table.{past}
+use Rattle.rows.proofs.Kit.{sym, needs}
 use Rattle.igvm_defs.specs.Kinds.{kindOf, spans}
-use borrow.Author.Needs.{needs}
-use Rattle.igvm_defs.proofs.kind_index.Statement.{statement}
+use Rattle.igvm_defs.proofs.{Table.past, kind_index.Statement.statement}
 use Rattle.igvm_defs.proofs.kind_index.Tie as tie
-
-returns : tie.Need-returns
-returns c = search needs
 
 returns-2 : tie.Need-returns-2
 unfolding kindOf spans
 returns-2 c = (search needs, sym (past 54 (c .before .args .k) (search needs) spans tt))
 
 pub kind-index-spec : {M : Type 1} → statement M
-kind-index-spec = tie.close (tie.spec returns returns-2)
+kind-index-spec = tie.close (tie.spec (λ c. search needs) returns-2)

@@ -1,6 +1,5 @@
-use Rattle.igvm_defs.proofs.Table.{at}
 use Rattle.igvm_defs.specs.Kinds.{kindOf, spans, noKind}
-use Rattle.igvm_defs.proofs.kinds.Statement.{statement}
+use Rattle.igvm_defs.proofs.{Table.at, kinds.Statement.statement}
 use Rattle.igvm_defs.proofs.kinds.Tie as tie
 
 returns : tie.Need-returns

@@ -1,20 +1,10 @@
-use mathlib.Core.Path.{_≡_, refl}
-use mathlib.Core.Bool.{Bool, true, false, not, _&&_, _||_}
-use Prim.Native.Nat.{_+_, _-_, _*_, _≤_, _<_}
-use lib.ListN.{length}
 use mir.Val.{boolByte}
-use Rattle.sheet.specs.Head.{headOf}
-use native.Mathlib.Omega.{arith}
-use borrow.Author.Needs.{needs}
-use borrow.Author.Tests.{not-false}
-use denote.Ref.{now}
-use Rattle.rows.proofs.Bools.{or-false-parts}
-use Rattle.sheet.specs.Table.{rowKind, bodyOf}
-use Rattle.sheet_headers.specs.Headers.{sheetHeaders}
+use Rattle.rows.{proofs.Kit.{_≡_, refl, Bool, true, false, not, _&&_, _||_, _+_, _-_, _*_, _≤_, _<_, length, arith, needs, not-false, now}, proofs.Bools.or-false-parts}
+use Rattle.sheet.{specs.Head.headOf, specs.Table.{rowKind, bodyOf}}
 use Rattle.initialization_check.specs.Record.{regionsIn}
+use Rattle.sheet_headers.specs.Headers.{sheetHeaders}
 use Rattle.initialization_row.specs.Row.{InOrder}
-use Rattle.initialization_accept.proofs.RowsLaws.{Reached, reached-none, row-known, row-order, row-faultless, reached-next}
-use Rattle.initialization_accept.proofs.accept.Statement.{statement}
+use Rattle.initialization_accept.proofs.{RowsLaws.{Reached, reached-none, row-known, row-order, row-faultless, reached-next}, accept.Statement.statement}
 use Rattle.initialization_accept.proofs.accept.Tie as tie
 
 abbrev Inv-loop : tie.InvT-loop
@@ -24,9 +14,6 @@ Inv-loop s end x64 cca masks₀ gpas₀ sizes₀ vps₀ vtls₀ tables₀ rows�
 abbrev μ-loop : tie.MeasureT-loop
 μ-loop s end x64 cca masks₀ gpas₀ sizes₀ vps₀ vtls₀ tables₀ rows₀ c₀ n₀ reach₀ masks gpas sizes vps vtls tables rows c n reach =
     end - c .row
-
-new-requires : tie.Need-new-requires Inv-loop μ-loop
-new-requires c κs = search needs
 
 loop-holds : tie.Need-loop-holds Inv-loop μ-loop
 loop-holds c =
@@ -81,39 +68,6 @@ one-at-most : (b : Bool) → boolByte b ≤ 1
 one-at-most true = omega arith
 one-at-most false = omega arith
 
-length-at-requires : tie.Need-length-at-requires Inv-loop μ-loop
-length-at-requires c κs = at-row c .0
-
-sub-if2 : tie.Need-sub-if2 Inv-loop μ-loop
-sub-if2 c = at-row (c .before) .1
-
-same-length : tie.Need-same-length Inv-loop μ-loop
-same-length c = c .before .before .before .before .loop .inv .lent .mask .0
-
-same-length-2 : tie.Need-same-length-2 Inv-loop μ-loop
-same-length-2 c = c .before .before .before .before .loop .inv .lent .gpa .0
-
-same-length-3 : tie.Need-same-length-3 Inv-loop μ-loop
-same-length-3 c = c .before .before .before .before .loop .inv .lent .size .0
-
-same-length-4 : tie.Need-same-length-4 Inv-loop μ-loop
-same-length-4 c = c .before .before .before .before .loop .inv .lent .vp .0
-
-same-length-5 : tie.Need-same-length-5 Inv-loop μ-loop
-same-length-5 c = c .before .before .before .before .loop .inv .lent .vtl .0
-
-same-length-6 : tie.Need-same-length-6 Inv-loop μ-loop
-same-length-6 c = c .before .before .before .before .loop .inv .lent .table .0
-
-same-length-7 : tie.Need-same-length-7 Inv-loop μ-loop
-same-length-7 c = c .before .before .before .before .loop .inv .lent .number .0
-
-returns : tie.Need-returns Inv-loop μ-loop
-returns c = c .before .before .before .before .loop .inv .accepted
-
-kind-at-requires : tie.Need-kind-at-requires Inv-loop μ-loop
-kind-at-requires c κs = at-row (c .before .before) .0
-
 -- its body lies in the sheet
 fits : (c : tie.Else2 Inv-loop μ-loop) → c .before .length-at .result ≤ length (now (c .before .before .before .before .before .before .before .before .before .before .before .before .before .before .args .s)) - c .before .before .before .before .loop .c .at
 fits c =
@@ -126,9 +80,6 @@ part-requires c κs =
     let room = at-row (c .before .before .before) .1 in
     let l = fits (c .before) in
     omega arith
-
-row-of-requires : tie.Need-row-of-requires Inv-loop μ-loop
-row-of-requires c κs = search needs
 
 any-tables-share-requires : tie.Need-any-tables-share-requires Inv-loop μ-loop
 any-tables-share-requires c κs =
@@ -168,59 +119,17 @@ same-length-14 c = c .before .before .before .before .before .before .before .be
 returns-2 : tie.Need-returns-2 Inv-loop μ-loop
 returns-2 c = c .before .before .before .before .before .before .before .before .before .before .before .before .before .before .before .before .before .loop .inv .accepted
 
-mul-masks : tie.Need-mul-masks Inv-loop μ-loop
-mul-masks c = let small = room c .0 in omega arith
-
-slice-write-masks : tie.Need-slice-write-masks Inv-loop μ-loop
-slice-write-masks c = room c .1
-
-mul-gpas : tie.Need-mul-gpas Inv-loop μ-loop
-mul-gpas c = let small = room c .0 in omega arith
-
-slice-write-gpas : tie.Need-slice-write-gpas Inv-loop μ-loop
-slice-write-gpas c = room c .2
-
-mul-sizes : tie.Need-mul-sizes Inv-loop μ-loop
-mul-sizes c = let small = room c .0 in omega arith
-
-slice-write-sizes : tie.Need-slice-write-sizes Inv-loop μ-loop
-slice-write-sizes c = room c .3
-
-mul-vps : tie.Need-mul-vps Inv-loop μ-loop
-mul-vps c = let small = room c .0 in omega arith
-
-slice-write-vps : tie.Need-slice-write-vps Inv-loop μ-loop
-slice-write-vps c = room c .4
-
-slice-write-vtls : tie.Need-slice-write-vtls Inv-loop μ-loop
-slice-write-vtls c = room c .5
-
-slice-write-tables : tie.Need-slice-write-tables Inv-loop μ-loop
-slice-write-tables c = room c .6
-
 add-rows : tie.Need-add-rows Inv-loop μ-loop
 add-rows c = let l = at-row (c .before .before .before .before .before .before .before .before .before .before .before .before .before .before .before) .2 in omega arith
 
 cast-rows : tie.Need-cast-rows Inv-loop μ-loop
 cast-rows c = let l = at-row (c .before .before .before .before .before .before .before .before .before .before .before .before .before .before .before) .2 in omega arith
 
-mul-rows : tie.Need-mul-rows Inv-loop μ-loop
-mul-rows c = let small = room c .0 in omega arith
-
-slice-write-rows : tie.Need-slice-write-rows Inv-loop μ-loop
-slice-write-rows c = room c .7
-
-cast-n : tie.Need-cast-n Inv-loop μ-loop
-cast-n c = search needs
-
 add-n : tie.Need-add-n Inv-loop μ-loop
 add-n c =
     let l = room c .0 in
     let m = one-at-most (c .before .before .before .before .before .before .before .before .before .before .row-of .result .found) in
     omega arith
-
-with-requires : tie.Need-with-requires Inv-loop μ-loop
-with-requires c κs = order c .ends
 
 add-t26 : tie.Need-add-t26 Inv-loop μ-loop
 add-t26 c = let l = at-row (c .before .before .before .before .before .before .before .before .before .before .before .before .before .before .before .before) .2 in omega arith
@@ -245,87 +154,20 @@ loop-again c =
     let faultless = row-faultless inv _ _ _ (t .if1 .taken) (el .before .length-at .ensures .0) (fits el) (order e) _ _ (e .before .before .before .before .before .before .any-tables-share .ensures) (e .before .before .any-near-overlap .ensures) (passed e .1) in
     reached-next inv _ _ _ (t .if1 .taken) (el .before .length-at .ensures .0) (fits el) (order e) _ faultless (c .with .ensures)
 
-same-length-15 : tie.Need-same-length-15 Inv-loop μ-loop
-same-length-15 c = c .before .before .loop .inv .lent .mask .0
-
-same-length-16 : tie.Need-same-length-16 Inv-loop μ-loop
-same-length-16 c = c .before .before .loop .inv .lent .gpa .0
-
-same-length-17 : tie.Need-same-length-17 Inv-loop μ-loop
-same-length-17 c = c .before .before .loop .inv .lent .size .0
-
-same-length-18 : tie.Need-same-length-18 Inv-loop μ-loop
-same-length-18 c = c .before .before .loop .inv .lent .vp .0
-
-same-length-19 : tie.Need-same-length-19 Inv-loop μ-loop
-same-length-19 c = c .before .before .loop .inv .lent .vtl .0
-
-same-length-20 : tie.Need-same-length-20 Inv-loop μ-loop
-same-length-20 c = c .before .before .loop .inv .lent .table .0
-
-same-length-21 : tie.Need-same-length-21 Inv-loop μ-loop
-same-length-21 c = c .before .before .loop .inv .lent .number .0
-
-returns-3 : tie.Need-returns-3 Inv-loop μ-loop
-returns-3 c = c .before .before .loop .inv .accepted
-
 pub accept-spec : {M : Type 1} → statement M
 accept-spec =
-    tie.close
-    (tie.spec
-    Inv-loop
-    μ-loop
-    new-requires
-    loop-holds
-    length-at-requires
-    sub-if2
-    same-length
-    same-length-2
-    same-length-3
-    same-length-4
-    same-length-5
-    same-length-6
-    same-length-7
-    returns
-    kind-at-requires
-    part-requires
-    row-of-requires
-    any-tables-share-requires
-    any-near-overlap-requires
-    same-length-8
-    same-length-9
-    same-length-10
-    same-length-11
-    same-length-12
-    same-length-13
-    same-length-14
-    returns-2
-    mul-masks
-    slice-write-masks
-    mul-gpas
-    slice-write-gpas
-    mul-sizes
-    slice-write-sizes
-    mul-vps
-    slice-write-vps
-    slice-write-vtls
-    slice-write-tables
-    add-rows
-    cast-rows
-    mul-rows
-    slice-write-rows
-    cast-n
-    add-n
-    with-requires
-    add-t26
-    add-t25
-    loop-less
-    loop-again
-    same-length-15
-    same-length-16
-    same-length-17
-    same-length-18
-    same-length-19
-    same-length-20
-    same-length-21
-    returns-3)
+    tie.close (tie.spec Inv-loop μ-loop (λ c κs. search needs) loop-holds (λ c κs. at-row c .0) (λ c. at-row (c .before) .1)
+    (λ c. c .before .before .before .before .loop .inv .lent .mask .0) (λ c. c .before .before .before .before .loop .inv .lent .gpa .0)
+    (λ c. c .before .before .before .before .loop .inv .lent .size .0) (λ c. c .before .before .before .before .loop .inv .lent .vp .0)
+    (λ c. c .before .before .before .before .loop .inv .lent .vtl .0) (λ c. c .before .before .before .before .loop .inv .lent .table .0)
+    (λ c. c .before .before .before .before .loop .inv .lent .number .0) (λ c. c .before .before .before .before .loop .inv .accepted)
+    (λ c κs. at-row (c .before .before) .0) part-requires (λ c κs. search needs) any-tables-share-requires any-near-overlap-requires
+    same-length-8 same-length-9 same-length-10 same-length-11 same-length-12 same-length-13 same-length-14 returns-2
+    (λ c. let small = room c .0 in omega arith) (λ c. room c .1) (λ c. let small = room c .0 in omega arith) (λ c. room c .2)
+    (λ c. let small = room c .0 in omega arith) (λ c. room c .3) (λ c. let small = room c .0 in omega arith) (λ c. room c .4)
+    (λ c. room c .5) (λ c. room c .6) add-rows cast-rows (λ c. let small = room c .0 in omega arith) (λ c. room c .7) (λ c. search needs)
+    add-n (λ c κs. order c .ends) add-t26 add-t25 loop-less loop-again (λ c. c .before .before .loop .inv .lent .mask .0)
+    (λ c. c .before .before .loop .inv .lent .gpa .0) (λ c. c .before .before .loop .inv .lent .size .0)
+    (λ c. c .before .before .loop .inv .lent .vp .0) (λ c. c .before .before .loop .inv .lent .vtl .0)
+    (λ c. c .before .before .loop .inv .lent .table .0) (λ c. c .before .before .loop .inv .lent .number .0)
+    (λ c. c .before .before .loop .inv .accepted))

@@ -1,25 +1,12 @@
-use mathlib.Core.Path.{_≡_, _∙_}
-use mathlib.Core.Bool.{Bool, true, false, cond, not, _&&_}
-use mathlib.Core.List.{List}
-use mathlib.Core.Option.{none, some}
-use Prim.Native.Nat.{ℕ, _+_, _≤_}
-use borrow.Author.Needs.{needs}
-use Rattle.rows.specs.Rows.{Rows, before}
-use Rattle.igvm_defs.specs.declared.Arch.{Arch}
-use Rattle.igvm_defs.specs.declared.Fault.{Fault}
-use Rattle.igvm_defs.specs.Refusals.{isFault, orFault}
+use Rattle.rows.{proofs.Kit.{_≡_, _∙_, Bool, true, false, cond, not, _&&_, List, none, some, ℕ, _+_, _≤_, needs}, specs.Rows.{Rows, before}}
+use Rattle.igvm_defs.{specs.declared.Arch.Arch, specs.declared.Fault.Fault, specs.Refusals.{isFault, orFault}}
 use Rattle.platform_header.specs.declared.IgvmPlatformHeader.{IgvmPlatformHeader}
 use Rattle.initialization_header.specs.declared.IgvmInitializationHeader.{IgvmInitializationHeader}
-use Rattle.rules.specs.declared.Region.{Region}
-use Rattle.rules.specs.Regions.{regionOf}
-use Rattle.rules.specs.Initializations.{validateInitialization, initializationFault}
-use Rattle.extents.specs.declared.Reach.{Reach}
-use Rattle.extents.specs.Extents.{apartFrom, Covers}
-use Rattle.extents.proofs.ExtentLaws.{near-overlap}
+use Rattle.rules.{specs.declared.Region.Region, specs.Regions.regionOf, specs.Initializations.{validateInitialization, initializationFault}}
 use Rattle.clashes.specs.Clashes.{anyTablesShare, anyOverlap}
+use Rattle.extents.{specs.declared.Reach.Reach, specs.Extents.{apartFrom, Covers}, proofs.ExtentLaws.near-overlap}
 use Rattle.initialization_check.specs.Record.{policyFault, regionFault, HoldsClashes}
-use Rattle.initialization_check.proofs.FaultLaws.{row-fault, region-ends}
-use Rattle.initialization_check.proofs.check.Statement.{statement}
+use Rattle.initialization_check.proofs.{FaultLaws.{row-fault, region-ends}, check.Statement.statement}
 use Rattle.initialization_check.proofs.check.Tie as tie
 
 -- the arrays' tests give the fault of the row
@@ -37,30 +24,6 @@ ends-by : (found : Bool) (own region fault : Fault) (shares overlaps : Bool) (ne
 ends-by found own region fault shares overlaps new g told f e =
     let same : fault ≡ region = told ∙ rw e in
     region-ends own shares overlaps new (rw (← g, ← same) f)
-
-validate-requires : tie.Need-validate-requires
-validate-requires c κs = search needs
-
-policy-fault-requires : tie.Need-policy-fault-requires
-policy-fault-requires c κs = search needs
-
-or-fault-requires : tie.Need-or-fault-requires
-or-fault-requires c κs = search needs
-
-region-of-requires : tie.Need-region-of-requires
-region-of-requires c κs = search needs
-
-any-tables-share-requires : tie.Need-any-tables-share-requires
-any-tables-share-requires c κs = search needs
-
-any-near-overlap-requires : tie.Need-any-near-overlap-requires
-any-near-overlap-requires c κs = search needs
-
-region-fault-requires : tie.Need-region-fault-requires
-region-fault-requires c κs = search needs
-
-row-fault-requires : tie.Need-row-fault-requires
-row-fault-requires c κs = search needs
 
 returns : tie.Need-returns
 returns c ps xs i hp e held covers =
@@ -81,14 +44,5 @@ returns c ps xs i hp e held covers =
 
 pub check-spec : {M : Type 1} → statement M
 check-spec =
-    tie.close
-    (tie.spec
-    validate-requires
-    policy-fault-requires
-    or-fault-requires
-    region-of-requires
-    any-tables-share-requires
-    any-near-overlap-requires
-    region-fault-requires
-    row-fault-requires
-    returns)
+    tie.close (tie.spec (λ c κs. search needs) (λ c κs. search needs) (λ c κs. search needs) (λ c κs. search needs) (λ c κs. search needs)
+    (λ c κs. search needs) (λ c κs. search needs) (λ c κs. search needs) returns)

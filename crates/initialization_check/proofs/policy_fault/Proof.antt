@@ -1,23 +1,8 @@
-use mathlib.Core.Path.{sym}
-use mathlib.Core.List.{[], _∷_}
+use Rattle.rows.proofs.Kit.{sym, [], _∷_, needs}
 use Rattle.initialization_header.proofs.InitializationLaws.{not-kind}
 use Rattle.initialization_check.specs.Record.{policyFault}
-use Rattle.initialization_check.proofs.FaultLaws.{no-policy, holds-bit}
-use borrow.Author.Needs.{needs}
-use Rattle.initialization_check.proofs.policy_fault.Statement.{statement}
+use Rattle.initialization_check.proofs.{FaultLaws.{no-policy, holds-bit}, policy_fault.Statement.statement}
 use Rattle.initialization_check.proofs.policy_fault.Tie as tie
-
-enum-known-h : tie.Need-enum-known-h
-enum-known-h c = search needs
-
-is-aarch64-requires : tie.Need-is-aarch64-requires
-is-aarch64-requires c κs = search needs
-
-without-cca-requires : tie.Need-without-cca-requires
-without-cca-requires c κs = search needs
-
-refuse-requires : tie.Need-refuse-requires
-refuse-requires c κs = search needs
 
 returns : tie.Need-returns
 unfolding policyFault
@@ -31,11 +16,4 @@ returns-2 c ps held = let a = c .before .args in sym (no-policy (a .arch) ps (a 
 
 pub policy-fault-spec : {M : Type 1} → statement M
 policy-fault-spec =
-    tie.close
-    (tie.spec
-    enum-known-h
-    is-aarch64-requires
-    without-cca-requires
-    refuse-requires
-    returns
-    returns-2)
+    tie.close (tie.spec (λ c. search needs) (λ c κs. search needs) (λ c κs. search needs) (λ c κs. search needs) returns returns-2)

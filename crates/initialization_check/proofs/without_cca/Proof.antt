@@ -1,17 +1,8 @@
-use mathlib.Core.Path.{_≡_, refl, sym, ap, _∙_}
-use mathlib.Core.Bool.{Bool, not}
-use mathlib.Core.Option.{Option, none}
-use Prim.Native.Nat.{ℕ, _-_, _≤_}
-use native.Mathlib.Omega.{arith}
-use borrow.Author.Needs.{needs}
-use lib.ListN.{length, take}
-use Rattle.masks.specs.Masks.{firstMask}
-use Rattle.masks.proofs.MaskLaws.{first-mask-more, first-mask-stop}
-use Rattle.igvm_defs.specs.declared.Fault.{Fault}
-use Rattle.igvm_defs.specs.Refusals.{noFault}
-use Rattle.platform_check.specs.declared.Platforms.{Platforms}
-use Rattle.platform_check.specs.Record.{lastTypeIsCca}
+use Rattle.rows.proofs.Kit.{_≡_, refl, sym, ap, _∙_, Bool, not, Option, none, ℕ, _-_, _≤_, arith, needs, length, take}
+use Rattle.igvm_defs.{specs.declared.Fault.Fault, specs.Refusals.noFault}
+use Rattle.masks.{specs.Masks.firstMask, proofs.MaskLaws.{first-mask-more, first-mask-stop}}
 use Rattle.rules.specs.Initializations.{refuseBit}
+use Rattle.platform_check.{specs.declared.Platforms.Platforms, specs.Record.lastTypeIsCca}
 use Rattle.initialization_check.proofs.without_cca.Statement.{statement}
 use Rattle.initialization_check.proofs.without_cca.Tie as tie
 
@@ -29,24 +20,9 @@ Inv-loop platforms mask bits n i₀ i = (i ≤ n) × (firstMask (without platfor
 abbrev μ-loop : tie.MeasureT-loop
 μ-loop platforms mask bits n i₀ i = n - i
 
-extract-individual-masks-requires : tie.Need-extract-individual-masks-requires Inv-loop μ-loop
-extract-individual-masks-requires c κs = search needs
-
 loop-holds : tie.Need-loop-holds Inv-loop μ-loop
 unfolding firstMask
 loop-holds c = (search needs, refl)
-
-mul-bit : tie.Need-mul-bit Inv-loop μ-loop
-mul-bit c = search needs
-
-element-copy-out-bit : tie.Need-element-copy-out-bit Inv-loop μ-loop
-element-copy-out-bit c = search needs
-
-last-is-cca-requires : tie.Need-last-is-cca-requires Inv-loop μ-loop
-last-is-cca-requires c κs = search needs
-
-cast-t14 : tie.Need-cast-t14 Inv-loop μ-loop
-cast-t14 c = search needs
 
 returns : tie.Need-returns Inv-loop μ-loop
 returns c =
@@ -57,12 +33,6 @@ returns c =
     let l : length (bits .masks) ≡ 32 = search needs in
     let first = first-mask-stop p (bits .masks) (bits .count) (c .before .before .before .before .loop .i) (search needs) (omega arith) (c .before .before .before .before .loop .inv .1) found in
     sym (ap fault25 (ap (firstMask p) (sym (s .extract-individual-masks .ensures .0)) ∙ first))
-
-add-i : tie.Need-add-i Inv-loop μ-loop
-add-i c = search needs
-
-loop-less : tie.Need-loop-less Inv-loop μ-loop
-loop-less c = search needs
 
 loop-again : tie.Need-loop-again Inv-loop μ-loop
 loop-again c =
@@ -83,18 +53,5 @@ returns-2 c =
 
 pub without-cca-spec : {M : Type 1} → statement M
 without-cca-spec =
-    tie.close
-    (tie.spec
-    Inv-loop
-    μ-loop
-    extract-individual-masks-requires
-    loop-holds
-    mul-bit
-    element-copy-out-bit
-    last-is-cca-requires
-    cast-t14
-    returns
-    add-i
-    loop-less
-    loop-again
-    returns-2)
+    tie.close (tie.spec Inv-loop μ-loop (λ c κs. search needs) loop-holds (λ c. search needs) (λ c. search needs) (λ c κs. search needs)
+    (λ c. search needs) returns (λ c. search needs) (λ c. search needs) loop-again returns-2)

@@ -1,9 +1,6 @@
-use mathlib.Core.Path.{_≡_}
-use native.Mathlib.Omega.{arith}
-use Rattle.igvm_defs.proofs.KindLaws.{initialization-kind}
-use Rattle.igvm_defs.proofs.Runs.{past-run}
+use Rattle.rows.proofs.Kit.{_≡_, arith}
+use Rattle.igvm_defs.{proofs.KindLaws.initialization-kind, proofs.Runs.past-run, specs.Kinds.{kindOf, spans}}
 use Rattle.initialization_header.specs.Initializations.{initializationOf}
-use Rattle.igvm_defs.specs.Kinds.{kindOf, spans}
 use Rattle.initialization_header.proofs.decode.Statement.{statement}
 use Rattle.initialization_header.proofs.decode.Tie as tie
 
@@ -47,13 +44,5 @@ returns-4 c = rw (last-kind (c .before)) (c .page-table-relocation-region .ensur
 
 pub decode-spec : {M : Type 1} → statement M
 decode-spec =
-    tie.close
-    (tie.spec
-    guest-policy-requires
-    cca-policy-requires
-    relocatable-region-requires
-    page-table-relocation-region-requires
-    returns
-    returns-2
-    returns-3
-    returns-4)
+    tie.close (tie.spec guest-policy-requires cca-policy-requires relocatable-region-requires page-table-relocation-region-requires returns
+    returns-2 returns-3 returns-4)

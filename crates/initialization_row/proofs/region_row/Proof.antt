@@ -1,53 +1,9 @@
-use Rattle.rows.proofs.Bools.{not-both}
-use Rattle.initialization_row.proofs.RowLaws.{region-in-order}
-use borrow.Author.Needs.{needs}
-use Rattle.initialization_row.proofs.region_row.Statement.{statement}
+use Rattle.rows.{proofs.Bools.not-both, proofs.Kit.needs}
+use Rattle.initialization_row.proofs.{RowLaws.region-in-order, region_row.Statement.statement}
 use Rattle.initialization_row.proofs.region_row.Tie as tie
-
-without-region-requires : tie.Need-without-region-requires
-without-region-requires c κs = search needs
 
 returns : tie.Need-returns
 returns c arch ps e = not-both (c .without-region .ensures .0) e
-
-u32-at-requires : tie.Need-u32-at-requires
-u32-at-requires c κs = search needs
-
-u64-at-requires : tie.Need-u64-at-requires
-u64-at-requires c κs = search needs
-
-u64-at-requires-2 : tie.Need-u64-at-requires-2
-u64-at-requires-2 c κs = search needs
-
-u16-at-requires : tie.Need-u16-at-requires
-u16-at-requires c κs = search needs
-
-shared-slice-read-t11 : tie.Need-shared-slice-read-t11
-shared-slice-read-t11 c = search needs
-
-u64-at-requires-3 : tie.Need-u64-at-requires-3
-u64-at-requires-3 c κs = search needs
-
-u64-at-requires-4 : tie.Need-u64-at-requires-4
-u64-at-requires-4 c κs = search needs
-
-u64-at-requires-5 : tie.Need-u64-at-requires-5
-u64-at-requires-5 c κs = search needs
-
-validate-region-requires : tie.Need-validate-region-requires
-validate-region-requires c κs = search needs
-
-shared-slice-read-t11-2 : tie.Need-shared-slice-read-t11-2
-shared-slice-read-t11-2 c = search needs
-
-shared-slice-read-t15 : tie.Need-shared-slice-read-t15
-shared-slice-read-t15 c = search needs
-
-is-fault-requires : tie.Need-is-fault-requires
-is-fault-requires c κs = search needs
-
-has-room-requires : tie.Need-has-room-requires
-has-room-requires c κs = search needs
 
 returns-2 : tie.Need-returns-2
 returns-2 c arch ps e =
@@ -60,21 +16,6 @@ returns-2 c arch ps e =
 
 pub region-row-spec : {M : Type 1} → statement M
 region-row-spec =
-    tie.close
-    (tie.spec
-    without-region-requires
-    returns
-    u32-at-requires
-    u64-at-requires
-    u64-at-requires-2
-    u16-at-requires
-    shared-slice-read-t11
-    u64-at-requires-3
-    u64-at-requires-4
-    u64-at-requires-5
-    validate-region-requires
-    shared-slice-read-t11-2
-    shared-slice-read-t15
-    is-fault-requires
-    has-room-requires
-    returns-2)
+    tie.close (tie.spec (λ c κs. search needs) returns (λ c κs. search needs) (λ c κs. search needs) (λ c κs. search needs)
+    (λ c κs. search needs) (λ c. search needs) (λ c κs. search needs) (λ c κs. search needs) (λ c κs. search needs) (λ c κs. search needs)
+    (λ c. search needs) (λ c. search needs) (λ c κs. search needs) (λ c κs. search needs) returns-2)

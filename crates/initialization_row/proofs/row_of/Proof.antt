@@ -1,27 +1,6 @@
-use mathlib.Core.Path.{sym, _∙_}
-use Rattle.rows.proofs.Bools.{not-both}
-use Rattle.initialization_row.proofs.RowLaws.{guest-in-order}
-use borrow.Author.Needs.{needs}
-use Rattle.initialization_row.proofs.row_of.Statement.{statement}
+use Rattle.rows.{proofs.Kit.{sym, _∙_, needs}, proofs.Bools.not-both}
+use Rattle.initialization_row.proofs.{RowLaws.guest-in-order, row_of.Statement.statement}
 use Rattle.initialization_row.proofs.row_of.Tie as tie
-
-without-region-requires : tie.Need-without-region-requires
-without-region-requires c κs = search needs
-
-policy-row-requires : tie.Need-policy-row-requires
-policy-row-requires c κs = search needs
-
-without-region-requires-2 : tie.Need-without-region-requires-2
-without-region-requires-2 c κs = search needs
-
-region-row-requires : tie.Need-region-row-requires
-region-row-requires c κs = search needs
-
-table-row-requires : tie.Need-table-row-requires
-table-row-requires c κs = search needs
-
-without-region-requires-3 : tie.Need-without-region-requires-3
-without-region-requires-3 c κs = search needs
 
 returns : tie.Need-returns
 returns c arch ps ex holds e =
@@ -44,16 +23,5 @@ returns-5 c arch ps ex holds e = not-both (c .without-region3 .ensures .0) e
 
 pub row-of-spec : {M : Type 1} → statement M
 row-of-spec =
-    tie.close
-    (tie.spec
-    without-region-requires
-    policy-row-requires
-    without-region-requires-2
-    region-row-requires
-    table-row-requires
-    without-region-requires-3
-    returns
-    returns-2
-    returns-3
-    returns-4
-    returns-5)
+    tie.close (tie.spec (λ c κs. search needs) (λ c κs. search needs) (λ c κs. search needs) (λ c κs. search needs) (λ c κs. search needs)
+    (λ c κs. search needs) returns returns-2 returns-3 returns-4 returns-5)

@@ -1,31 +1,10 @@
-use lib.ListN.{length}
-use Rattle.validation.proofs.VerdictLaws.{sheet-none, verdict-none}
+use Rattle.rows.{proofs.Kit.{length, now, not-true, arith, _≡_, sym, ap, _∙_, needs}, proofs.Bools.and-parts}
+use Rattle.igvm_defs.{specs.Revision.{isX64, archOf}, proofs.RefusalLaws.row-refusal, specs.Refusals.isFault}
+use Rattle.sheet.{specs.Head.{rowCount, revisionOf, limits, pageSizeFault}, specs.declared.SheetHead.SheetHead}
 use Rattle.sheet_headers.proofs.HeaderLaws.{sheet-counts}
-use Rattle.sheet.specs.Head.{rowCount, revisionOf}
-use Rattle.igvm_defs.specs.Revision.{isX64, archOf}
-use Rattle.sheet.specs.Head.{limits, pageSizeFault}
-use Rattle.sheet.specs.declared.SheetHead.{SheetHead}
-use Rattle.igvm_defs.proofs.RefusalLaws.{row-refusal}
-use Rattle.igvm_defs.specs.Refusals.{isFault}
-use Rattle.rows.proofs.Bools.{and-parts}
-use denote.Ref.{now}
-use borrow.Author.Tests.{not-true}
-use native.Mathlib.Omega.{arith}
-use mathlib.Core.Path.{_≡_, sym, ap, _∙_}
-use borrow.Author.Needs.{needs}
+use Rattle.validation.proofs.VerdictLaws.{sheet-none, verdict-none}
 use Rattle.judge.proofs.judge.Statement.{statement}
 use Rattle.judge.proofs.judge.Tie as tie
-use Rattle.judge.proofs.judge.Reads as reads
-use Rattle.judge.proofs.judge.Lts as lts
-use Rattle.acceptance.proofs.accept.Reads as accept-reads
-use Rattle.validation.proofs.accepted.Reads as accepted-reads
-use Rattle.validation.proofs.judge_from.Reads as judge-from-reads
-use Rattle.igvm_defs.proofs.Arch.is_x64.Reads as is-x64-reads
-use Rattle.igvm_defs.proofs.Fault.is_fault.Reads as is-fault-reads
-use Rattle.igvm_defs.proofs.IgvmRevision.arch.Reads as arch-reads
-use Rattle.sheet.proofs.SheetHead.page_size_fault.Reads as page-size-fault-reads
-use Rattle.sheet.proofs.SheetHead.revision.Reads as revision-reads
-use Rattle.sheet.proofs.SheetHead.rows.Reads as rows-reads
 
 -- the arrays are as long as they were
 masks-kept : (c : tie.Else1) → length (c .before .before .before .before .before .before .before .before .before .before .before .before .before .before .before .before .before .before .accept .last .1 .1 .1 .1 .1 .0) ≡ length (now (c .before .before .before .before .before .before .before .before .before .before .before .before .before .before .before .before .before .before .before .before .before .before .before .before .before .before .before .before .before .before .before .before .before .before .before .before .before .before .before .before .before .args .masks))
@@ -50,29 +29,11 @@ rows-kept : (c : tie.Else1) → length (c .before .before .before .before .befor
 rows-kept c = search needs
 
 -- src/lib.rt:157:13
-cast-p : tie.Need-cast-p
-cast-p c = search needs
-
 -- src/lib.rt:158:13
-cast-i : tie.Need-cast-i
-cast-i c = search needs
-
 -- src/lib.rt:159:15
-revision-requires : tie.Need-revision-requires
-revision-requires c κs = search needs
-
 -- src/lib.rt:159:15
-arch-requires : tie.Need-arch-requires
-arch-requires c κs = search needs
-
 -- src/lib.rt:159:9
-is-x64-requires : tie.Need-is-x64-requires
-is-x64-requires c κs = search needs
-
 -- src/lib.rt:164:9
-rows-requires : tie.Need-rows-requires
-rows-requires c κs = search needs
-
 -- src/lib.rt:160:9
 accept-requires : tie.Need-accept-requires
 accept-requires c κs =
@@ -82,45 +43,15 @@ accept-requires c κs =
     ((st .pre .0 .0, ap (λ (y : SheetHead). y .platforms) h, ap (λ (y : SheetHead). y .initializations) h, c .before .before .before .before .before .before .before .before .rows .ensures ∙ ap rowCount h, x), (rw (ap (λ (y : SheetHead). y .initializations) h) (st .pre .1 .0), st .pre .1 .1))
 
 -- src/lib.rt:175:9
-page-size-fault-requires : tie.Need-page-size-fault-requires
-page-size-fault-requires c κs = search needs
-
 -- src/lib.rt:176:22
-is-fault-requires : tie.Need-is-fault-requires
-is-fault-requires c κs = search needs
-
 -- src/lib.rt:178:22
-accepted-requires : tie.Need-accepted-requires
-accepted-requires c κs = search needs
-
 -- src/lib.rt:177:9
-same-length : tie.Need-same-length
-same-length c = search needs
-
 -- src/lib.rt:177:9
-same-length-2 : tie.Need-same-length-2
-same-length-2 c = search needs
-
 -- src/lib.rt:177:9
-same-length-3 : tie.Need-same-length-3
-same-length-3 c = search needs
-
 -- src/lib.rt:177:9
-same-length-4 : tie.Need-same-length-4
-same-length-4 c = search needs
-
 -- src/lib.rt:177:9
-same-length-5 : tie.Need-same-length-5
-same-length-5 c = search needs
-
 -- src/lib.rt:177:9
-same-length-6 : tie.Need-same-length-6
-same-length-6 c = search needs
-
 -- src/lib.rt:177:9
-same-length-7 : tie.Need-same-length-7
-same-length-7 c = search needs
-
 -- src/lib.rt:177:9
 returns : tie.Need-returns
 returns c =
@@ -181,37 +112,10 @@ same-length-14 c =
     a ∙ rows-kept (c .before .before .before .before .before .before .before .before .before .before .before .before .before .before .before .before .before .before .before .before .before .before .before)
 
 -- src/lib.rt:139:1
-returns-2 : tie.Need-returns-2
-returns-2 c = search needs
-
 pub judge-spec : {M : Type 1} → statement M
 judge-spec =
-    tie.close
-    (tie.spec
-    cast-p
-    cast-i
-    revision-requires
-    arch-requires
-    is-x64-requires
-    rows-requires
-    accept-requires
-    page-size-fault-requires
-    is-fault-requires
-    accepted-requires
-    same-length
-    same-length-2
-    same-length-3
-    same-length-4
-    same-length-5
-    same-length-6
-    same-length-7
-    returns
-    judge-from-requires
-    same-length-8
-    same-length-9
-    same-length-10
-    same-length-11
-    same-length-12
-    same-length-13
-    same-length-14
-    returns-2)
+    tie.close (tie.spec (λ c. search needs) (λ c. search needs) (λ c κs. search needs) (λ c κs. search needs) (λ c κs. search needs)
+    (λ c κs. search needs) accept-requires (λ c κs. search needs) (λ c κs. search needs) (λ c κs. search needs) (λ c. search needs)
+    (λ c. search needs) (λ c. search needs) (λ c. search needs) (λ c. search needs) (λ c. search needs) (λ c. search needs) returns
+    judge-from-requires same-length-8 same-length-9 same-length-10 same-length-11 same-length-12 same-length-13 same-length-14
+    (λ c. search needs))

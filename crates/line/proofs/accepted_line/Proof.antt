@@ -1,31 +1,12 @@
 -- `accepted_line` meets its contract. Assumes nothing.
+use Rattle.rows.proofs.Kit.{needs}
 use Rattle.line.specs.Line.{acceptedLine}
-use borrow.Author.Needs.{needs}
 use Rattle.line.proofs.accepted_line.Statement.{statement}
 use Rattle.line.proofs.accepted_line.Tie as tie
-
-slice-aggregate-numbers-line : tie.Need-slice-aggregate-numbers-line
-slice-aggregate-numbers-line c = search needs
-
-slice-aggregate-numbers-line-2 : tie.Need-slice-aggregate-numbers-line-2
-slice-aggregate-numbers-line-2 c = search needs
-
-slice-aggregate-numbers-line-3 : tie.Need-slice-aggregate-numbers-line-3
-slice-aggregate-numbers-line-3 c = search needs
-
-numbers-line-requires : tie.Need-numbers-line-requires
-numbers-line-requires c κs = search needs
 
 returns : tie.Need-returns
 unfolding acceptedLine
 returns c = c .numbers-line .ensures
 
 pub accepted-line-spec : {M : Type 1} → statement M
-accepted-line-spec =
-    tie.close
-    (tie.spec
-    slice-aggregate-numbers-line
-    slice-aggregate-numbers-line-2
-    slice-aggregate-numbers-line-3
-    numbers-line-requires
-    returns)
+accepted-line-spec = tie.close (tie.spec (λ c. search needs) (λ c. search needs) (λ c. search needs) (λ c κs. search needs) returns)

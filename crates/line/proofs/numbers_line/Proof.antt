@@ -1,23 +1,7 @@
 -- `numbers_line` meets its contract. Assumes nothing.
-use native.Mathlib.Omega.{arith}
-use borrow.Author.Needs.{needs}
+use Rattle.rows.proofs.Kit.{arith, needs}
 use Rattle.line.proofs.numbers_line.Statement.{statement}
 use Rattle.line.proofs.numbers_line.Tie as tie
-
-new-requires : tie.Need-new-requires
-new-requires c κs = search needs
-
-number-after-requires : tie.Need-number-after-requires
-number-after-requires c κs = search needs
-
-number-after-requires-2 : tie.Need-number-after-requires-2
-number-after-requires-2 c κs = search needs
-
-number-after-requires-3 : tie.Need-number-after-requires-3
-number-after-requires-3 c κs = search needs
-
-byte-requires : tie.Need-byte-requires
-byte-requires c κs = search needs
 
 returns : tie.Need-returns
 returns c =
@@ -29,11 +13,5 @@ returns c =
 
 pub numbers-line-spec : {M : Type 1} → statement M
 numbers-line-spec =
-    tie.close
-    (tie.spec
-    new-requires
-    number-after-requires
-    number-after-requires-2
-    number-after-requires-3
-    byte-requires
+    tie.close (tie.spec (λ c κs. search needs) (λ c κs. search needs) (λ c κs. search needs) (λ c κs. search needs) (λ c κs. search needs)
     returns)

@@ -1,11 +1,6 @@
-use mathlib.Core.Path.{_≡_, refl, sym}
-use Prim.Native.Nat.{_-_, _≤_}
-use native.Mathlib.Omega.{arith}
-use borrow.Author.Needs.{needs}
-use lib.ListN.{take}
+use Rattle.rows.proofs.Kit.{_≡_, refl, _-_, _≤_, arith, needs, take}
 use Rattle.masks.specs.Masks.{bitsBelow, hasBit}
-use Rattle.masks.proofs.MaskLaws.{one-bit, bits-more}
-use Rattle.masks.proofs.extract_individual_masks.Statement.{statement}
+use Rattle.masks.proofs.{MaskLaws.{one-bit, bits-more}, extract_individual_masks.Statement.statement}
 use Rattle.masks.proofs.extract_individual_masks.Tie as tie
 
 abbrev Inv-loop : tie.InvT-loop
@@ -17,21 +12,6 @@ abbrev μ-loop : tie.MeasureT-loop
 loop-holds : tie.Need-loop-holds Inv-loop μ-loop
 unfolding bitsBelow
 loop-holds c = (omega arith, refl, omega arith)
-
-shl-bit : tie.Need-shl-bit Inv-loop μ-loop
-shl-bit c = search needs
-
-shares-requires : tie.Need-shares-requires Inv-loop μ-loop
-shares-requires c κs = search needs
-
-with-bit-requires : tie.Need-with-bit-requires Inv-loop μ-loop
-with-bit-requires c κs = search needs
-
-add-k : tie.Need-add-k Inv-loop μ-loop
-add-k c = search needs
-
-loop-less : tie.Need-loop-less Inv-loop μ-loop
-loop-less c = search needs
 
 loop-again : tie.Need-loop-again Inv-loop μ-loop
 unfolding hasBit
@@ -46,15 +26,5 @@ returns c =
 
 pub extract-individual-masks-spec : {M : Type 1} → statement M
 extract-individual-masks-spec =
-    tie.close
-    (tie.spec
-    Inv-loop
-    μ-loop
-    loop-holds
-    shl-bit
-    shares-requires
-    with-bit-requires
-    add-k
-    loop-less
-    loop-again
-    returns)
+    tie.close (tie.spec Inv-loop μ-loop loop-holds (λ c. search needs) (λ c κs. search needs) (λ c κs. search needs) (λ c. search needs)
+    (λ c. search needs) loop-again returns)

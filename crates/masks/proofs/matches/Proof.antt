@@ -1,5 +1,5 @@
+use Rattle.rows.proofs.Kit.{refl}
 use Rattle.masks.specs.Masks.{matches}
-use mathlib.Core.Path.{refl}
 use Rattle.masks.proofs.matches.Statement.{statement}
 use Rattle.masks.proofs.matches.Tie as tie
 

@@ -1,5 +1,5 @@
+use Rattle.rows.proofs.Kit.{refl}
 use Rattle.masks.specs.Masks.{shares}
-use mathlib.Core.Path.{refl}
 use Rattle.masks.proofs.shares.Statement.{statement}
 use Rattle.masks.proofs.shares.Tie as tie
 

@@ -1,5 +1,5 @@
+use Rattle.rows.proofs.Kit.{refl}
 use Rattle.masks.specs.Masks.{shares}
-use mathlib.Core.Path.{refl}
 use Rattle.masks.proofs.shares_u64.Statement.{statement}
 use Rattle.masks.proofs.shares_u64.Tie as tie
 

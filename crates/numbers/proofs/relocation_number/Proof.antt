@@ -1,21 +1,7 @@
-use mathlib.Core.Path.{ap, sym}
-use lib.ListN.{getD, List·getD-eq-default}
-use native.Mathlib.Omega.{arith}
-use mathlib.Core.List.{[], _∷_}
-use Prim.Native.Nat.{ℕ}
-use Rattle.answers.specs.Numbers.{numberOf, verdictNumbers, relocationNumbers, checkNumbers}
-use borrow.Author.Needs.{needs}
+use Rattle.rows.proofs.Kit.{ap, sym, getD, List·getD-eq-default, arith, [], _∷_, ℕ, needs}
+use Rattle.answers.specs.Numbers.{numberOf, relocationNumbers}
 use Rattle.numbers.proofs.relocation_number.Statement.{statement}
 use Rattle.numbers.proofs.relocation_number.Tie as tie
-
-number-if-requires : tie.Need-number-if-requires
-number-if-requires c κs = search needs
-
-mul-result : tie.Need-mul-result
-mul-result c = search needs
-
-array-read-result : tie.Need-array-read-result
-array-read-result c = search needs
 
 returns : tie.Need-returns
 unfolding numberOf
@@ -26,5 +12,4 @@ unfolding numberOf
 returns-2 c = sym (List·getD-eq-default (relocationNumbers (c .before .before .before .before .args .a)) 0 {n = c .before .before .before .before .args .which} (omega arith))
 
 pub relocation-number-spec : {M : Type 1} → statement M
-relocation-number-spec =
-    tie.close (tie.spec number-if-requires mul-result array-read-result returns returns-2)
+relocation-number-spec = tie.close (tie.spec (λ c κs. search needs) (λ c. search needs) (λ c. search needs) returns returns-2)

@@ -1,6 +1,4 @@
-use mathlib.Core.Path.{sym}
-use native.Mathlib.Omega.{arith}
-use lib.ListN.{List·getD-eq-default}
+use Rattle.rows.proofs.Kit.{sym, arith, List·getD-eq-default}
 use Rattle.igvm_defs.proofs.Runs.{past-run}
 use Rattle.answers.specs.Numbers.{numberOf, verdictNumbers}
 use Rattle.numbers.proofs.verdict_number.Statement.{statement}
@@ -37,5 +35,4 @@ returns-7 c =
     sym (List·getD-eq-default (verdictNumbers (g .v)) 0 {n = g .which} (past-run (g .which) 0 6 (omega arith) (c .match .rest)))
 
 pub verdict-number-spec : {M : Type 1} → statement M
-verdict-number-spec =
-    tie.close (tie.spec returns returns-2 returns-3 returns-4 returns-5 returns-6 returns-7)
+verdict-number-spec = tie.close (tie.spec returns returns-2 returns-3 returns-4 returns-5 returns-6 returns-7)

@@ -1,17 +1,9 @@
-use mathlib.Core.Path.{_≡_}
-use mathlib.Core.Bool.{Bool, true, false}
-use Prim.Native.Nat.{_-_, _≤_, _<_}
 use mir.Val.{boolByte}
-use native.Mathlib.Omega.{arith}
-use borrow.Author.Needs.{needs}
-use denote.Ref.{now}
+use Rattle.rows.proofs.Kit.{_≡_, Bool, true, false, _-_, _≤_, _<_, arith, needs, now}
 use Rattle.igvm_defs.specs.Refusals.{isFault}
-use Rattle.sheet_headers.specs.Headers.{sheetHeaders}
-use Rattle.initialization_check.specs.Record.{InitializationStepped}
-use Rattle.initialization_check.proofs.RecordLaws.{holds-none}
-use Rattle.sheet_headers.proofs.HeaderLaws.{sheet-counts}
-use Rattle.passes.proofs.FirstPasses.{InitializationsReached, rows-first, initialization-known, initialization-small, initialization-room, initialization-stepped, initialization-next, initializations-stop, initializations-end}
-use Rattle.passes.proofs.validate_initialization_headers.Statement.{statement}
+use Rattle.initialization_check.{specs.Record.InitializationStepped, proofs.RecordLaws.holds-none}
+use Rattle.sheet_headers.{specs.Headers.sheetHeaders, proofs.HeaderLaws.sheet-counts}
+use Rattle.passes.proofs.{FirstPasses.{InitializationsReached, rows-first, initialization-known, initialization-small, initialization-room, initialization-stepped, initialization-next, initializations-stop, initializations-end}, validate_initialization_headers.Statement.statement}
 use Rattle.passes.proofs.validate_initialization_headers.Tie as tie
 
 abbrev Inv-loop : tie.InvT-loop
@@ -20,26 +12,8 @@ Inv-loop s platforms first n arch c₀ regions₀ reach₀ i₀ c regions reach 
 abbrev μ-loop : tie.MeasureT-loop
 μ-loop s platforms first n arch c₀ regions₀ reach₀ i₀ c regions reach i = n - i
 
-cast-first : tie.Need-cast-first Inv-loop μ-loop
-cast-first c = search needs
-
-cast-n : tie.Need-cast-n Inv-loop μ-loop
-cast-n c = search needs
-
-revision-requires : tie.Need-revision-requires Inv-loop μ-loop
-revision-requires c κs = search needs
-
-arch-requires : tie.Need-arch-requires Inv-loop μ-loop
-arch-requires c κs = search needs
-
 cursor-at-requires : tie.Need-cursor-at-requires Inv-loop μ-loop
 cursor-at-requires c κs = let st = c .before .before .before .before .before in (st .pre .0, rw (st .pre .1) (omega arith))
-
-no-regions-requires : tie.Need-no-regions-requires Inv-loop μ-loop
-no-regions-requires c κs = search needs
-
-reach-new-requires : tie.Need-new-requires Inv-loop μ-loop
-reach-new-requires c κs = search needs
 
 loop-holds : tie.Need-loop-holds Inv-loop μ-loop
 loop-holds c =
@@ -56,9 +30,6 @@ loop-holds c =
       holds = holds-none (c .before .no-regions .result) (sheetHeaders s .initializations) (c .before .no-regions .ensures .0);
       covers = c .new .ensures (sheetHeaders s .initializations);
     }
-
-initialization-at-requires : tie.Need-initialization-at-requires Inv-loop μ-loop
-initialization-at-requires c κs = initialization-known (c .before .loop .inv) (c .loop-test .taken)
 
 check-requires : tie.Need-check-requires Inv-loop μ-loop
 check-requires c κs =
@@ -81,9 +52,6 @@ one-at-most : (b : Bool) → boolByte b ≤ 1
 one-at-most true = omega arith
 one-at-most false = omega arith
 
-is-fault-requires : tie.Need-is-fault-requires Inv-loop μ-loop
-is-fault-requires c κs = search needs
-
 add-in-row : tie.Need-add-in-row Inv-loop μ-loop
 add-in-row c =
     let t = c .before .before .before .before .before .before .before .before .before .before in
@@ -95,9 +63,6 @@ add-in-row-2 c =
     let t = c .before .before .before .before .before .before .before .before .before .before in
     let l = initialization-small (t .before .loop .inv) (t .loop-test .taken) in
     omega arith
-
-in-row-requires : tie.Need-in-row-requires Inv-loop μ-loop
-in-row-requires c κs = search needs
 
 returns : tie.Need-returns Inv-loop μ-loop
 returns c =
@@ -136,9 +101,6 @@ element-write-regions-5 c = let l = room (c .before .before .before .before .bef
 element-write-regions-6 : tie.Need-element-write-regions-6 Inv-loop μ-loop
 element-write-regions-6 c = let l = room (c .before .before .before .before .before .before .before .before .before .before .before) in search needs
 
-cast-regions : tie.Need-cast-regions Inv-loop μ-loop
-cast-regions c = search needs
-
 add-regions : tie.Need-add-regions Inv-loop μ-loop
 add-regions c =
     let l = room (c .before .before .before .before .before .before .before .before .before .before .before) in
@@ -159,9 +121,6 @@ add-i c =
     let l = initialization-small (t .before .loop .inv) (t .loop-test .taken) in
     omega arith
 
-loop-less : tie.Need-loop-less Inv-loop μ-loop
-loop-less c = search needs
-
 loop-again : tie.Need-loop-again Inv-loop μ-loop
 loop-again c =
     let d = c .before .before .before .before .before .before in
@@ -169,45 +128,12 @@ loop-again c =
     let e : isFault (d .check .result .fault) ≡ false = rw (← c .before .before .before .before .is-fault .ensures) (c .before .before .before .if1 .left) in
     initialization-next (t .before .loop .inv) _ _ _ _ _ (t .loop-test .taken) (stepped d) e (c .before .with .ensures) (c .next .ensures)
 
-returns-2 : tie.Need-returns-2 Inv-loop μ-loop
-returns-2 c = initializations-end (c .before .loop .inv) (c .loop-test .left)
-
 pub validate-initialization-headers-spec : {M : Type 1} → statement M
 validate-initialization-headers-spec =
-    tie.close
-    (tie.spec
-    Inv-loop
-    μ-loop
-    cast-first
-    cast-n
-    revision-requires
-    arch-requires
-    cursor-at-requires
-    no-regions-requires
-    reach-new-requires
-    loop-holds
-    initialization-at-requires
-    check-requires
-    is-fault-requires
-    add-in-row
-    add-in-row-2
-    in-row-requires
-    returns
-    mul-regions
-    element-write-regions
-    mul-regions-2
-    element-write-regions-2
-    mul-regions-3
-    element-write-regions-3
-    mul-regions-4
-    element-write-regions-4
-    element-write-regions-5
-    element-write-regions-6
-    cast-regions
-    add-regions
-    with-requires
-    next-requires
-    add-i
-    loop-less
-    loop-again
-    returns-2)
+    tie.close (tie.spec Inv-loop μ-loop (λ c. search needs) (λ c. search needs) (λ c κs. search needs) (λ c κs. search needs)
+    cursor-at-requires (λ c κs. search needs) (λ c κs. search needs) loop-holds
+    (λ c κs. initialization-known (c .before .loop .inv) (c .loop-test .taken)) check-requires (λ c κs. search needs) add-in-row
+    add-in-row-2 (λ c κs. search needs) returns mul-regions element-write-regions mul-regions-2 element-write-regions-2 mul-regions-3
+    element-write-regions-3 mul-regions-4 element-write-regions-4 element-write-regions-5 element-write-regions-6 (λ c. search needs)
+    add-regions with-requires next-requires add-i (λ c. search needs) loop-again
+    (λ c. initializations-end (c .before .loop .inv) (c .loop-test .left)))

@@ -1,21 +1,11 @@
-use mathlib.Core.Path.{_≡_, ap, _∙_}
-use mathlib.Core.Bool.{false, not, _&&_, _||_}
-use Prim.Native.Nat.{_+_, _-_, _^_, _≤_, _<_}
-use native.Mathlib.Omega.{arith}
-use lib.Dec.{eqb}
-use lib.ListN.{length}
-use borrow.Author.Needs.{needs}
-use borrow.Author.Tests.{not-false}
-use denote.Ref.{now}
+use Rattle.rows.proofs.Kit.{_≡_, ap, _∙_, false, not, _&&_, _||_, _+_, _-_, _^_, _≤_, _<_, arith, eqb, length, needs, not-false, now}
 use Rattle.igvm_defs.specs.Refusals.{isFault}
-use Rattle.masks.specs.Masks.{shares}
-use Rattle.sheet.specs.Head.{headOf}
-use Rattle.sheet.specs.Table.{rowKind, rowLength, bodyOf}
+use Rattle.sheet.{specs.Head.headOf, specs.Table.{rowKind, rowLength, bodyOf}}
 use Rattle.platform_header.specs.Platforms.{supportedPlatformOf}
+use Rattle.masks.specs.Masks.{shares}
 use Rattle.rules.specs.Accepted.{ownPlatformFault}
 use Rattle.sheet_headers.specs.Headers.{sheetHeaders}
-use Rattle.platform_accept.proofs.PlatformLaws.{own-says, body-part, part-long, Reached, reached-none, reached-more}
-use Rattle.platform_accept.proofs.accept.Statement.{statement}
+use Rattle.platform_accept.proofs.{PlatformLaws.{own-says, body-part, part-long, Reached, reached-none, reached-more}, accept.Statement.statement}
 use Rattle.platform_accept.proofs.accept.Tie as tie
 
 abbrev Inv-loop : tie.InvT-loop
@@ -41,47 +31,17 @@ own : (c : tie.Else3 Inv-loop μ-loop)
     isFault (ownPlatformFault (sheetHeaders s .arch) (supportedPlatformOf (now (c .before .before .part .result)))) ≡ false
 own c = c .before .is-sound .ensures _ (c .before .before .before .before .before .before .before .before .before .pre .1) (not-false _ (c .if3 .left))
 
-loop-holds : tie.Need-loop-holds Inv-loop μ-loop
-loop-holds c = reached-none _ _ (c .before .pre .0 .1) (c .before .pre .0 .2)
-
 is-platform-requires : tie.Need-is-platform-requires Inv-loop μ-loop
 is-platform-requires c κs =
     let p = c .before .before .before .before .pre .0 in
     let l = c .if1 .taken in
     (omega arith, c .before .before .loop .inv .accepted .read .room)
 
-returns : tie.Need-returns Inv-loop μ-loop
-returns c = c .before .before .before .before .loop .inv .accepted
-
-part-requires : tie.Need-part-requires Inv-loop μ-loop
-part-requires c κs = fits c .2
-
-is-sound-requires : tie.Need-is-sound-requires Inv-loop μ-loop
-is-sound-requires c κs = long c
-
 returns-2 : tie.Need-returns-2 Inv-loop μ-loop
 returns-2 c = c .before .before .before .before .before .before .before .loop .inv .accepted
 
-u32-at-requires : tie.Need-u32-at-requires Inv-loop μ-loop
-u32-at-requires c κs = let l = long (c .before .before) in omega arith
-
-shared-slice-read-kind : tie.Need-shared-slice-read-kind Inv-loop μ-loop
-shared-slice-read-kind c = let l = long (c .before .before .before .before) in omega arith
-
-type-bit-requires : tie.Need-type-bit-requires Inv-loop μ-loop
-type-bit-requires c κs = own-says _ _ (own (c .before .before)) .1
-
-shares-requires : tie.Need-shares-requires Inv-loop μ-loop
-shares-requires c κs = search needs
-
-shares-requires-2 : tie.Need-shares-requires-2 Inv-loop μ-loop
-shares-requires-2 c κs = search needs
-
 returns-3 : tie.Need-returns-3 Inv-loop μ-loop
 returns-3 c = c .before .before .before .before .before .before .before .before .before .before .before .before .before .loop .inv .accepted
-
-cca-with-requires : tie.Need-cca-with-requires Inv-loop μ-loop
-cca-with-requires c κs = search needs
 
 add-t21 : tie.Need-add-t21 Inv-loop μ-loop
 add-t21 c =
@@ -119,30 +79,10 @@ loop-again c =
     rw (c .cca-with .ensures, bit .type-bit .ensures, mask .u32-at .ensures)
     (reached-more s (l .c) (l .seen) (l .cca) h (l .inv) low (fits two) (ap supportedPlatformOf body) (own three) free)
 
-returns-4 : tie.Need-returns-4 Inv-loop μ-loop
-returns-4 c = c .before .before .loop .inv .accepted
-
 pub accept-spec : {M : Type 1} → statement M
 accept-spec =
-    tie.close
-    (tie.spec
-    Inv-loop
-    μ-loop
-    loop-holds
-    is-platform-requires
-    returns
-    part-requires
-    is-sound-requires
-    returns-2
-    u32-at-requires
-    shared-slice-read-kind
-    type-bit-requires
-    shares-requires
-    shares-requires-2
-    returns-3
-    cca-with-requires
-    add-t21
-    add-t22
-    loop-less
-    loop-again
-    returns-4)
+    tie.close (tie.spec Inv-loop μ-loop (λ c. reached-none _ _ (c .before .pre .0 .1) (c .before .pre .0 .2)) is-platform-requires
+    (λ c. c .before .before .before .before .loop .inv .accepted) (λ c κs. fits c .2) (λ c κs. long c) returns-2
+    (λ c κs. let l = long (c .before .before) in omega arith) (λ c. let l = long (c .before .before .before .before) in omega arith)
+    (λ c κs. own-says _ _ (own (c .before .before)) .1) (λ c κs. search needs) (λ c κs. search needs) returns-3 (λ c κs. search needs)
+    add-t21 add-t22 loop-less loop-again (λ c. c .before .before .loop .inv .accepted))

@@ -1,23 +1,6 @@
-use mathlib.Core.Path.{sym, _∙_}
-use Prim.Native.Nat.{_-_}
-use native.Mathlib.Omega.{arith}
-use lib.Dec.{eqb, leb}
-use lib.ListN.{length}
-use borrow.Author.Tests.{eqb-true, leb-true}
-use denote.Ref.{now}
-use Rattle.rows.proofs.Bools.{and-parts}
-use borrow.Author.Needs.{needs}
+use Rattle.rows.{proofs.Kit.{sym, _∙_, _-_, arith, eqb, leb, length, eqb-true, leb-true, now, needs}, proofs.Bools.and-parts}
 use Rattle.platform_accept.proofs.is_platform.Statement.{statement}
 use Rattle.platform_accept.proofs.is_platform.Tie as tie
-
-kind-at-requires : tie.Need-kind-at-requires
-kind-at-requires c κs = search needs
-
-length-at-requires : tie.Need-length-at-requires
-length-at-requires c κs = search needs
-
-sub-result : tie.Need-sub-result
-sub-result c = search needs
 
 returns : tie.Need-returns
 returns c =
@@ -32,4 +15,4 @@ returns c =
     )
 
 pub is-platform-spec : {M : Type 1} → statement M
-is-platform-spec = tie.close (tie.spec kind-at-requires length-at-requires sub-result returns)
+is-platform-spec = tie.close (tie.spec (λ c κs. search needs) (λ c κs. search needs) (λ c. search needs) returns)

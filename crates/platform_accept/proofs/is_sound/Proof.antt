@@ -1,30 +1,9 @@
-use mathlib.Core.Path.{_≡_}
-use denote.Ref.{now}
+use Rattle.rows.proofs.Kit.{_≡_, now, needs}
 use Rattle.le.specs.Le.{leAt}
-use Rattle.masks.specs.Masks.{isOneBit}
 use Rattle.platform_header.specs.Platforms.{supportedPlatformOf}
-use Rattle.platform_accept.proofs.PlatformLaws.{sound-says}
-use borrow.Author.Needs.{needs}
-use Rattle.platform_accept.proofs.is_sound.Statement.{statement}
+use Rattle.masks.specs.Masks.{isOneBit}
+use Rattle.platform_accept.proofs.{PlatformLaws.sound-says, is_sound.Statement.statement}
 use Rattle.platform_accept.proofs.is_sound.Tie as tie
-
-shared-slice-read-vtl : tie.Need-shared-slice-read-vtl
-shared-slice-read-vtl c = search needs
-
-shared-slice-read-kind : tie.Need-shared-slice-read-kind
-shared-slice-read-kind c = search needs
-
-u32-at-requires : tie.Need-u32-at-requires
-u32-at-requires c κs = search needs
-
-is-one-bit-requires : tie.Need-is-one-bit-requires
-is-one-bit-requires c κs = search needs
-
-u16-at-requires : tie.Need-u16-at-requires
-u16-at-requires c κs = search needs
-
-u64-at-requires : tie.Need-u64-at-requires
-u64-at-requires c κs = search needs
 
 returns : tie.Need-returns
 returns c =
@@ -35,12 +14,5 @@ returns c =
 
 pub is-sound-spec : {M : Type 1} → statement M
 is-sound-spec =
-    tie.close
-    (tie.spec
-    shared-slice-read-vtl
-    shared-slice-read-kind
-    u32-at-requires
-    is-one-bit-requires
-    u16-at-requires
-    u64-at-requires
-    returns)
+    tie.close (tie.spec (λ c. search needs) (λ c. search needs) (λ c κs. search needs) (λ c κs. search needs) (λ c κs. search needs)
+    (λ c κs. search needs) returns)

@@ -1,6 +1,5 @@
+use Rattle.igvm_defs.{proofs.KindLaws.platform-kind, specs.Kinds.{kindOf, spans}}
 use Rattle.platform_header.specs.Platforms.{platformOf}
-use Rattle.igvm_defs.proofs.KindLaws.{platform-kind}
-use Rattle.igvm_defs.specs.Kinds.{kindOf, spans}
 use Rattle.platform_header.proofs.decode.Statement.{statement}
 use Rattle.platform_header.proofs.decode.Tie as tie
 

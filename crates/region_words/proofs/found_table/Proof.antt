@@ -1,18 +1,11 @@
 -- `found_table` meets its contract. Assumes nothing.
-use native.Mathlib.Omega.{arith}
-use borrow.Author.Needs.{needs}
-use borrow.Author.Tests.{eq-eqb, ne-eqb}
-use denote.Ref.{now}
-use Rattle.sheet.specs.Head.{limits}
-use Rattle.sheet.proofs.Readable.{at-row, initialization-row}
+use Rattle.rows.proofs.Kit.{arith, needs, eq-eqb, ne-eqb, now}
+use Rattle.sheet.{specs.Head.limits, proofs.Readable.{at-row, initialization-row}}
 use Rattle.region_words.proofs.found_table.Statement.{statement}
 use Rattle.region_words.proofs.found_table.Tie as tie
 
 returns : tie.Need-returns
 returns c = let a = c .before .before .args in rw (eq-eqb (a .t) (a .end) (c .if1 .taken))
-
-cursor-at-requires : tie.Need-cursor-at-requires
-cursor-at-requires c κs = search needs
 
 initialization-at-requires : tie.Need-initialization-at-requires
 initialization-at-requires c κs =
@@ -22,9 +15,6 @@ initialization-at-requires c κs =
     rw (c .cursor-at .ensures)
     (at-row limits (now (st .args .s)) ok (st .args .t) (omega arith), initialization-row limits (now (st .args .s)) ok (st .args .t) low (omega arith))
 
-page-table-of-requires : tie.Need-page-table-of-requires
-page-table-of-requires c κs = search needs
-
 returns-2 : tie.Need-returns-2
 returns-2 c =
     let a = c .before .before .before .before .before .args in
@@ -32,11 +22,4 @@ returns-2 c =
     rw (ne-eqb (a .t) (a .end) (c .before .before .before .if1 .left), ← h) (c .page-table-of .ensures)
 
 pub found-table-spec : {M : Type 1} → statement M
-found-table-spec =
-    tie.close
-    (tie.spec
-    returns
-    cursor-at-requires
-    initialization-at-requires
-    page-table-of-requires
-    returns-2)
+found-table-spec = tie.close (tie.spec returns (λ c κs. search needs) initialization-at-requires (λ c κs. search needs) returns-2)

@@ -1,12 +1,7 @@
 -- `is_region` meets its contract. Assumes nothing.
-use mathlib.Core.Path.{sym}
-use native.Mathlib.Omega.{arith}
-use borrow.Author.Needs.{needs}
-use borrow.Author.Tests.{ne-eqb}
-use denote.Ref.{now}
+use Rattle.rows.proofs.Kit.{sym, arith, needs, ne-eqb, now}
 use Rattle.igvm_defs.specs.Kinds.{kindOf, spans}
-use Rattle.initialization_header.specs.Initializations.{initializationOf}
-use Rattle.initialization_header.proofs.InitializationLaws.{kind-initialization}
+use Rattle.initialization_header.{specs.Initializations.initializationOf, proofs.InitializationLaws.kind-initialization}
 use Rattle.regions.proofs.HeaderLaws.{not-relocatable}
 use Rattle.region_words.proofs.is_region.Statement.{statement}
 use Rattle.region_words.proofs.is_region.Tie as tie
@@ -21,12 +16,9 @@ u32-at-requires : tie.Need-u32-at-requires
 unfolding kindOf spans
 u32-at-requires c κs = let l = rw (c .if1 .left) at (c .before .before .pre .1) in omega arith
 
-matches-requires : tie.Need-matches-requires
-matches-requires c κs = search needs
-
 returns-2 : tie.Need-returns-2
 unfolding initializationOf
 returns-2 c = rw (c .before .before .if1 .left, ← c .before .u32-at .ensures) (c .matches .ensures)
 
 pub is-region-spec : {M : Type 1} → statement M
-is-region-spec = tie.close (tie.spec returns u32-at-requires matches-requires returns-2)
+is-region-spec = tie.close (tie.spec returns u32-at-requires (λ c κs. search needs) returns-2)

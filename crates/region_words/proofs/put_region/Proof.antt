@@ -1,19 +1,12 @@
 -- `put_region` meets its contract. Assumes nothing.
-use mathlib.Core.Path.{_≡_, sym, _∙_}
-use native.Mathlib.Nat.{add-zero}
-use borrow.Author.Needs.{needs}
-use denote.Ref.{now}
+use Rattle.rows.proofs.Kit.{_≡_, sym, _∙_, add-zero, needs, now}
 use Rattle.igvm_defs.specs.Kinds.{kindOf, spans}
 use Rattle.sheet.proofs.Readable.{codes-18}
 use Rattle.initialization_header.specs.Initializations.{initializationOf}
 use Rattle.rules.specs.Relocations.{relocatableOf}
 use Rattle.answers.specs.Relocations.{regionWords}
-use Rattle.region_words.proofs.WordLaws.{region-kind, region-header}
-use Rattle.region_words.proofs.put_region.Statement.{statement}
+use Rattle.region_words.proofs.{WordLaws.{region-kind, region-header}, put_region.Statement.statement}
 use Rattle.region_words.proofs.put_region.Tie as tie
-
-is-region-requires : tie.Need-is-region-requires
-is-region-requires c κs = search needs
 
 -- the row is of kind 18
 kind-known : (c : tie.Then1) → c .before .before .before .before .args .kind ≡ 18
@@ -33,12 +26,6 @@ put-words-requires : tie.Need-put-words-requires
 put-words-requires c κs =
     c .before .before .before .before .before .before .pre .1 (sym (c .before .before .before .is-region .ensures) ∙ c .before .before .if1 .taken)
 
-add-result : tie.Need-add-result
-add-result c = search needs
-
-same-length : tie.Need-same-length
-same-length c = search needs
-
 returns : tie.Need-returns
 returns c =
     let m = c .before .before .before .before .before .before .is-region .ensures in
@@ -55,12 +42,5 @@ returns-2 c =
 
 pub put-region-spec : {M : Type 1} → statement M
 put-region-spec =
-    tie.close
-    (tie.spec
-    is-region-requires
-    words-of-requires
-    put-words-requires
-    add-result
-    same-length
-    returns
+    tie.close (tie.spec (λ c κs. search needs) words-of-requires put-words-requires (λ c. search needs) (λ c. search needs) returns
     returns-2)

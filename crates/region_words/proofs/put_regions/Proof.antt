@@ -1,12 +1,7 @@
 -- `put_regions` meets its contract. Assumes nothing.
-use mathlib.Core.Path.{refl, ap}
-use Prim.Native.Nat.{_-_}
-use native.Mathlib.Omega.{arith}
-use borrow.Author.Needs.{needs}
-use denote.Ref.{now}
+use Rattle.rows.proofs.Kit.{refl, ap, _-_, arith, needs, now}
 use Rattle.regions.proofs.TurnLaws.{AtInitialization, first-within}
-use Rattle.region_words.proofs.WalkLaws.{Walked, walk-none, lent-length, walk-at, walk-room, walk-few, walk-next, walk-all}
-use Rattle.region_words.proofs.put_regions.Statement.{statement}
+use Rattle.region_words.proofs.{WalkLaws.{Walked, walk-none, lent-length, walk-at, walk-room, walk-few, walk-next, walk-all}, put_regions.Statement.statement}
 use Rattle.region_words.proofs.put_regions.Tie as tie
 
 abbrev Inv-loop : tie.InvT-loop
@@ -22,15 +17,6 @@ known c =
     let st = c .before .before .before .before .before .before .before .before in
     walk-at (c .before .before .loop .inv) (st .args .head) (st .pre .1) refl (st .pre .0) (c .if1 .taken)
 
-cast-first : tie.Need-cast-first Inv-loop μ-loop
-cast-first c = search needs
-
-cast-end : tie.Need-cast-end Inv-loop μ-loop
-cast-end c = search needs
-
-add-end : tie.Need-add-end Inv-loop μ-loop
-add-end c = search needs
-
 cursor-at-requires : tie.Need-cursor-at-requires Inv-loop μ-loop
 cursor-at-requires c κs =
     let st = c .before .before .before .before in
@@ -40,15 +26,6 @@ loop-holds : tie.Need-loop-holds Inv-loop μ-loop
 loop-holds c =
     let st = c .before .before .before .before .before in
     walk-none (now (st .args .s)) (st .args .given) _ (now (st .args .words)) (st .args .head) (st .pre .1) refl (c .cursor-at .result) (c .cursor-at .ensures)
-
-kind-requires : tie.Need-kind-requires Inv-loop μ-loop
-kind-requires c κs = known c .place
-
-body-requires : tie.Need-body-requires Inv-loop μ-loop
-body-requires c κs = known (c .before) .place
-
-next-requires : tie.Need-next-requires Inv-loop μ-loop
-next-requires c κs = known (c .before .before) .place
 
 table-row-requires : tie.Need-table-row-requires Inv-loop μ-loop
 table-row-requires c κs =
@@ -90,9 +67,6 @@ found-table-requires c κs =
     let t = c .before .before .loop .inv .table in
     (st .pre .0, t .low, t .high, rw (st .pre .1))
 
-same-length : tie.Need-same-length Inv-loop μ-loop
-same-length c = lent-length (c .before .before .before .loop .inv)
-
 returns : tie.Need-returns Inv-loop μ-loop
 returns c =
     let st = c .before .before .before .before .before .before .before .before .before in
@@ -102,22 +76,6 @@ returns c =
 
 pub put-regions-spec : {M : Type 1} → statement M
 put-regions-spec =
-    tie.close
-    (tie.spec
-    Inv-loop
-    μ-loop
-    cast-first
-    cast-end
-    add-end
-    cursor-at-requires
-    loop-holds
-    kind-requires
-    body-requires
-    next-requires
-    table-row-requires
-    put-region-requires
-    loop-less
-    loop-again
-    found-table-requires
-    same-length
-    returns)
+    tie.close (tie.spec Inv-loop μ-loop (λ c. search needs) (λ c. search needs) (λ c. search needs) cursor-at-requires loop-holds
+    (λ c κs. known c .place) (λ c κs. known (c .before) .place) (λ c κs. known (c .before .before) .place) table-row-requires
+    put-region-requires loop-less loop-again found-table-requires (λ c. lent-length (c .before .before .before .loop .inv)) returns)

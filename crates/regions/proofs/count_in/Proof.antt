@@ -1,15 +1,6 @@
 -- `count_in` meets its contract: of the first i regions it counts those of the mask. Assumes nothing.
-use mathlib.Core.Path.{_≡_, refl}
-use mathlib.Core.Bool.{Bool, false, not, _&&_}
-use mathlib.Core.List.{List}
-use Prim.Native.Nat.{ℕ, _-_, _≤_}
-use native.Mathlib.Omega.{arith}
-use lib.ListN.{getD}
-use denote.Ref.{now}
-use Rattle.rows.specs.Below.{sumBelow, countBelow}
-use Rattle.rows.proofs.BelowLaws.{count-more, count-le}
+use Rattle.rows.{proofs.Kit.{_≡_, refl, Bool, false, not, _&&_, List, ℕ, _-_, _≤_, arith, getD, now, needs}, specs.Below.{sumBelow, countBelow}, proofs.BelowLaws.{count-more, count-le}}
 use Rattle.masks.specs.Masks.{matches}
-use borrow.Author.Needs.{needs}
 use Rattle.regions.proofs.count_in.Statement.{statement}
 use Rattle.regions.proofs.count_in.Tie as tie
 
@@ -26,32 +17,11 @@ loop-holds : tie.Need-loop-holds Inv-loop μ-loop
 unfolding sumBelow
 loop-holds c = (search needs, refl)
 
-mul-matches : tie.Need-mul-matches Inv-loop μ-loop
-mul-matches c = search needs
-
-shared-slice-read-matches : tie.Need-shared-slice-read-matches Inv-loop μ-loop
-shared-slice-read-matches c = search needs
-
-matches-requires : tie.Need-matches-requires Inv-loop μ-loop
-matches-requires c κs = search needs
-
-shared-slice-read-one : tie.Need-shared-slice-read-one Inv-loop μ-loop
-shared-slice-read-one c = search needs
-
-one-requires : tie.Need-one-requires Inv-loop μ-loop
-one-requires c κs = search needs
-
 add-count : tie.Need-add-count Inv-loop μ-loop
 add-count c =
     let a = c .before .before .before .before .before .before .before .before .args in
     let l = c .before .before .before .before .before .loop in
     omega (arith, count-le (l .i) (ofMask (a .given) (now (a .masks)) (now (a .tables))))
-
-add-i : tie.Need-add-i Inv-loop μ-loop
-add-i c = search needs
-
-loop-less : tie.Need-loop-less Inv-loop μ-loop
-loop-less c = search needs
 
 loop-again : tie.Need-loop-again Inv-loop μ-loop
 loop-again c = (search needs, rw (count-more, ← c .before .before .before .before .before .loop .inv .1) (cc))
@@ -71,19 +41,5 @@ returns c =
 
 pub count-in-spec : {M : Type 1} → statement M
 count-in-spec =
-    tie.close
-    (tie.spec
-    Inv-loop
-    μ-loop
-    loop-holds
-    mul-matches
-    shared-slice-read-matches
-    matches-requires
-    shared-slice-read-one
-    one-requires
-    add-count
-    add-i
-    loop-less
-    loop-again
-    cast-result
-    returns)
+    tie.close (tie.spec Inv-loop μ-loop loop-holds (λ c. search needs) (λ c. search needs) (λ c κs. search needs) (λ c. search needs)
+    (λ c κs. search needs) add-count (λ c. search needs) (λ c. search needs) loop-again cast-result returns)

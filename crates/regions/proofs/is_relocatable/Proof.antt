@@ -1,20 +1,8 @@
 -- `is_relocatable` meets its contract. Assumes nothing.
-use mathlib.Core.Path.{sym}
-use mathlib.Core.List.{[], _∷_}
+use Rattle.rows.proofs.Kit.{sym, [], _∷_, needs}
 use Rattle.initialization_header.proofs.InitializationLaws.{not-kind}
-use Rattle.regions.proofs.HeaderLaws.{not-relocatable}
-use borrow.Author.Needs.{needs}
-use Rattle.regions.proofs.is_relocatable.Statement.{statement}
+use Rattle.regions.proofs.{HeaderLaws.not-relocatable, is_relocatable.Statement.statement}
 use Rattle.regions.proofs.is_relocatable.Tie as tie
-
-enum-known-h : tie.Need-enum-known-h
-enum-known-h c = search needs
-
-matches-requires : tie.Need-matches-requires
-matches-requires c κs = search needs
-
-returns : tie.Need-returns
-returns c = rw (c .before .before .h .given .1) (c .matches .ensures)
 
 returns-2 : tie.Need-returns-2
 returns-2 c =
@@ -22,4 +10,6 @@ returns-2 c =
     sym (not-relocatable (a .h) (not-kind (0 ∷ 1 ∷ 3 ∷ []) (a .h) 2 tt (c .match .keys2)) .0 (a .given))
 
 pub is-relocatable-spec : {M : Type 1} → statement M
-is-relocatable-spec = tie.close (tie.spec enum-known-h matches-requires returns returns-2)
+is-relocatable-spec =
+    tie.close (tie.spec (λ c. search needs) (λ c κs. search needs) (λ c. rw (c .before .before .h .given .1) (c .matches .ensures))
+    returns-2)

@@ -1,19 +1,10 @@
 -- `region_at` meets its contract: over the first i rows the region found is theirs. Assumes nothing.
-use mathlib.Core.Path.{_≡_, refl, _∙_}
-use Prim.Native.Nat.{_+_, _-_, _≤_}
-use native.Mathlib.Omega.{arith}
-use denote.Ref.{now}
-use Rattle.rows.specs.Rows.{before}
-use Rattle.rows.specs.Below.{sumBelow, nthBelow}
-use Rattle.sheet.specs.Head.{headOf}
-use Rattle.sheet.specs.Walk.{cursorAt}
+use Rattle.rows.{proofs.Kit.{_≡_, refl, _∙_, _+_, _-_, _≤_, arith, now, needs}, specs.Rows.before, specs.Below.{sumBelow, nthBelow}}
+use Rattle.sheet.{specs.Head.headOf, specs.Walk.cursorAt}
 use Rattle.rules.specs.Relocations.{regionCount, regionAt}
 use Rattle.answers.specs.Relocations.{sheetInitializations}
 use Rattle.regions.specs.Found.{foundRegion}
-use Rattle.regions.proofs.FoundLaws.{regions-more, regions-few, region-more}
-use Rattle.regions.proofs.TurnLaws.{AtInitialization, at-initialization, first-row, first-within, all-rows}
-use borrow.Author.Needs.{needs}
-use Rattle.regions.proofs.region_at.Statement.{statement}
+use Rattle.regions.proofs.{FoundLaws.{regions-more, regions-few, region-more}, TurnLaws.{AtInitialization, at-initialization, first-row, first-within, all-rows}, region_at.Statement.statement}
 use Rattle.regions.proofs.region_at.Tie as tie
 
 abbrev Inv-loop : tie.InvT-loop
@@ -32,12 +23,6 @@ known c =
     let l = c .before .loop in
     at-initialization (now (st .args .s)) (st .args .head) (st .pre .1) (st .pre .0) (l .c) (l .i) (l .inv .1) (c .loop-test .taken)
 
-cast-n : tie.Need-cast-n Inv-loop μ-loop
-cast-n c = search needs
-
-cast-cursor-at : tie.Need-cast-cursor-at Inv-loop μ-loop
-cast-cursor-at c = search needs
-
 cursor-at-requires : tie.Need-cursor-at-requires Inv-loop μ-loop
 cursor-at-requires c κs =
     let st = c .before .before .before in
@@ -49,32 +34,14 @@ loop-holds c =
     let st = c .before .before .before .before in
     (omega arith, c .cursor-at .ensures ∙ first-row (now (st .args .s)) (st .args .head) (st .pre .1), refl, refl)
 
-initialization-at-requires : tie.Need-initialization-at-requires Inv-loop μ-loop
-initialization-at-requires c κs = let t = known c in (t .place, t .list)
-
-region-step-requires : tie.Need-region-step-requires Inv-loop μ-loop
-region-step-requires c κs = search needs
-
-is-relocatable-requires : tie.Need-is-relocatable-requires Inv-loop μ-loop
-is-relocatable-requires c κs = search needs
-
-one-if-requires : tie.Need-one-if-requires Inv-loop μ-loop
-one-if-requires c κs = search needs
-
 add-seen : tie.Need-add-seen Inv-loop μ-loop
 add-seen c =
     let t = known (c .before .before .before .before) in
     let a = c .before .before .before .before .before .before .before .before .before .before .args in
     omega (arith, regions-few (sheetInitializations (now (a .s))) (a .given) (c .before .before .before .before .before .loop .i))
 
-next-requires : tie.Need-next-requires Inv-loop μ-loop
-next-requires c κs = known (c .before .before .before .before) .place
-
 add-i : tie.Need-add-i Inv-loop μ-loop
 add-i c = let t = known (c .before .before .before .before .before) in omega arith
-
-loop-less : tie.Need-loop-less Inv-loop μ-loop
-loop-less c = search needs
 
 loop-again : tie.Need-loop-again Inv-loop μ-loop
 loop-again c =
@@ -97,21 +64,6 @@ returns c =
 
 pub region-at-spec : {M : Type 1} → statement M
 region-at-spec =
-    tie.close
-    (tie.spec
-    Inv-loop
-    μ-loop
-    cast-n
-    cast-cursor-at
-    cursor-at-requires
-    loop-holds
-    initialization-at-requires
-    region-step-requires
-    is-relocatable-requires
-    one-if-requires
-    add-seen
-    next-requires
-    add-i
-    loop-less
-    loop-again
-    returns)
+    tie.close (tie.spec Inv-loop μ-loop (λ c. search needs) (λ c. search needs) cursor-at-requires loop-holds
+    (λ c κs. let t = known c in (t .place, t .list)) (λ c κs. search needs) (λ c κs. search needs) (λ c κs. search needs) add-seen
+    (λ c κs. known (c .before .before .before .before) .place) add-i (λ c. search needs) loop-again returns)

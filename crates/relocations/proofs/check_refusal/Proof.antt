@@ -1,23 +1,13 @@
-use mathlib.Core.Path.{_≡_, ap, sym, _∙_}
-use mathlib.Core.Bool.{false}
-use denote.Ref.{now}
+use Rattle.rows.proofs.Kit.{_≡_, ap, sym, _∙_, false, now, needs}
 use Rattle.igvm_defs.specs.Refusals.{isRefusal, inRow}
 use Rattle.sheet.specs.Head.{limits}
 use Rattle.answers.specs.Relocations.{regionFault}
-use Rattle.relocations.proofs.CallLaws.{check-stops, region-decides, room-none}
-use borrow.Author.Needs.{needs}
-use Rattle.relocations.proofs.check_refusal.Statement.{statement}
+use Rattle.relocations.proofs.{CallLaws.{check-stops, region-decides, room-none}, check_refusal.Statement.statement}
 use Rattle.relocations.proofs.check_refusal.Tie as tie
 
 -- nothing is refused so far
 not-refused : (c : tie.Else1) → isRefusal (c .before .before .before .query .result .refusal) ≡ false
 not-refused c = sym (c .before .is-refusal .ensures) ∙ c .if1 .left
-
-query-requires : tie.Need-query-requires
-query-requires c κs = search needs
-
-is-refusal-requires : tie.Need-is-refusal-requires
-is-refusal-requires c κs = search needs
 
 returns : tie.Need-returns
 returns c =
@@ -25,12 +15,6 @@ returns c =
     let a = c .before .before .before .before .before .args in
     let t = sym (c .before .is-refusal .ensures) ∙ c .if1 .taken in
     q .0 .0 ∙ check-stops limits (now (a .s)) (a .given) (a .region) (rw (q .0 .0) at t)
-
-refuse-requires : tie.Need-refuse-requires
-refuse-requires c κs = search needs
-
-in-row-requires : tie.Need-in-row-requires
-in-row-requires c κs = search needs
 
 returns-2 : tie.Need-returns-2
 unfolding regionFault
@@ -45,5 +29,4 @@ returns-2 c =
 
 pub check-refusal-spec : {M : Type 1} → statement M
 check-refusal-spec =
-    tie.close
-    (tie.spec query-requires is-refusal-requires returns refuse-requires in-row-requires returns-2)
+    tie.close (tie.spec (λ c κs. search needs) (λ c κs. search needs) returns (λ c κs. search needs) (λ c κs. search needs) returns-2)

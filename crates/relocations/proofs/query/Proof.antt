@@ -1,23 +1,12 @@
 -- `query` meets its contract: past the verdict the arrays hold the regions of the rows, so the count in them is that of the rows. Assumes nothing.
-use mathlib.Core.Path.{_≡_, refl, ap, sym, _∙_}
-use mathlib.Core.Bool.{true, false, false≢true}
-use native.Mathlib.Omega.{arith}
-use lib.ListN.{length}
-use denote.Ref.{now}
-use Rattle.rows.proofs.Bools.{not-both}
-use Rattle.igvm_defs.specs.Refusals.{isFault, isRefusal, inRow}
-use Rattle.igvm_defs.proofs.RefusalLaws.{row-refusal, orElse-first, orElse-later}
-use Rattle.sheet.specs.Head.{limits, startFault}
-use Rattle.sheet.proofs.Readable.{start-says, started-bounds}
+use Rattle.rows.{proofs.Kit.{_≡_, refl, ap, sym, _∙_, true, false, false≢true, arith, length, now, needs}, proofs.Bools.not-both}
+use Rattle.igvm_defs.{specs.Refusals.{isFault, isRefusal, inRow}, proofs.RefusalLaws.{row-refusal, orElse-first, orElse-later}}
+use Rattle.sheet.{specs.Head.{limits, startFault}, proofs.Readable.{start-says, started-bounds}}
+use Rattle.answers.{specs.declared.Verdict.Verdict, specs.Verdict.{verdictRefusal, verdictOf}, specs.Relocations.maskFault}
 use Rattle.validation.proofs.VerdictLaws.{verdict-start}
-use Rattle.answers.specs.declared.Verdict.{Verdict}
-use Rattle.answers.specs.Verdict.{verdictRefusal, verdictOf}
-use Rattle.answers.specs.Relocations.{maskFault}
 use Rattle.regions.proofs.CountLaws.{count-kept}
 use Rattle.relocations.specs.Query.{queryRefusal}
-use Rattle.relocations.proofs.CallLaws.{kept-few}
-use borrow.Author.Needs.{needs}
-use Rattle.relocations.proofs.query.Statement.{statement}
+use Rattle.relocations.proofs.{CallLaws.kept-few, query.Statement.statement}
 use Rattle.relocations.proofs.query.Tie as tie
 
 -- the refusal of the file
@@ -32,15 +21,6 @@ accepted c = rw (told (c .before .before .before .before .before .before .before
 started : (c : tie.Else1) → isFault (startFault limits (now (c .before .before .before .before .args .s))) ≡ false
 started c = rw (← c .before .before .start-fault .ensures, ← c .before .is-fault .ensures) (c .if1 .left)
 
-start-fault-requires : tie.Need-start-fault-requires
-start-fault-requires c κs = search needs
-
-is-fault-requires : tie.Need-is-fault-requires
-is-fault-requires c κs = search needs
-
-in-row-requires : tie.Need-in-row-requires
-in-row-requires c κs = search needs
-
 returns : tie.Need-returns
 unfolding queryRefusal
 returns c =
@@ -51,38 +31,11 @@ returns c =
     let e = c .in-row .ensures ∙ ap (inRow 0) (c .before .before .before .start-fault .ensures) in
     ((e ∙ sym r ∙ sym (orElse-first _ _ (rw (← r) at u)), omega arith), λ f. not-both f (rw (← e) at u))
 
-new-requires : tie.Need-new-requires
-new-requires c κs = start-says limits _ .0 (started c) .head
-
-slice-aggregate-judge : tie.Need-slice-aggregate-judge
-slice-aggregate-judge c = search needs
-
-slice-aggregate-judge-2 : tie.Need-slice-aggregate-judge-2
-slice-aggregate-judge-2 c = search needs
-
-slice-aggregate-judge-3 : tie.Need-slice-aggregate-judge-3
-slice-aggregate-judge-3 c = search needs
-
-slice-aggregate-judge-4 : tie.Need-slice-aggregate-judge-4
-slice-aggregate-judge-4 c = search needs
-
-slice-aggregate-judge-5 : tie.Need-slice-aggregate-judge-5
-slice-aggregate-judge-5 c = search needs
-
-slice-aggregate-judge-6 : tie.Need-slice-aggregate-judge-6
-slice-aggregate-judge-6 c = search needs
-
-slice-aggregate-judge-7 : tie.Need-slice-aggregate-judge-7
-slice-aggregate-judge-7 c = search needs
-
 judge-requires : tie.Need-judge-requires
 judge-requires c κs =
     let e = started (c .before .before .before .before .before .before .before .before .before) in
     let b = started-bounds _ (start-says limits _ .0 e) .initializations in
     ((e, c .before .before .before .before .before .before .before .before .new .ensures), ((b, b, b, b, b, b, b), refl))
-
-is-refusal-requires : tie.Need-is-refusal-requires
-is-refusal-requires c κs = search needs
 
 returns-2 : tie.Need-returns-2
 unfolding queryRefusal
@@ -90,18 +43,6 @@ returns-2 c =
     let e = told (c .before .before .before .before .before .before .before .before .before .before .before) in
     let t = sym (c .before .is-refusal .ensures) ∙ c .if2 .taken in
     ((e ∙ sym (orElse-first _ _ (rw e at t)), omega arith), λ f. absurd (false≢true (sym f ∙ t)))
-
-refuse-requires : tie.Need-refuse-requires
-refuse-requires c κs = search needs
-
-in-row-requires-2 : tie.Need-in-row-requires-2
-in-row-requires-2 c κs = search needs
-
-slice-aggregate-count-within : tie.Need-slice-aggregate-count-within
-slice-aggregate-count-within c = search needs
-
-slice-aggregate-count-within-2 : tie.Need-slice-aggregate-count-within-2
-slice-aggregate-count-within-2 c = search needs
 
 count-within-requires : tie.Need-count-within-requires
 count-within-requires c κs =
@@ -124,26 +65,7 @@ returns-3 c =
 
 pub query-spec : {M : Type 1} → statement M
 query-spec =
-    tie.close
-    (tie.spec
-    start-fault-requires
-    is-fault-requires
-    in-row-requires
-    returns
-    new-requires
-    slice-aggregate-judge
-    slice-aggregate-judge-2
-    slice-aggregate-judge-3
-    slice-aggregate-judge-4
-    slice-aggregate-judge-5
-    slice-aggregate-judge-6
-    slice-aggregate-judge-7
-    judge-requires
-    is-refusal-requires
-    returns-2
-    refuse-requires
-    in-row-requires-2
-    slice-aggregate-count-within
-    slice-aggregate-count-within-2
-    count-within-requires
-    returns-3)
+    tie.close (tie.spec (λ c κs. search needs) (λ c κs. search needs) (λ c κs. search needs) returns
+    (λ c κs. start-says limits _ .0 (started c) .head) (λ c. search needs) (λ c. search needs) (λ c. search needs) (λ c. search needs)
+    (λ c. search needs) (λ c. search needs) (λ c. search needs) judge-requires (λ c κs. search needs) returns-2 (λ c κs. search needs)
+    (λ c κs. search needs) (λ c. search needs) (λ c. search needs) count-within-requires returns-3)

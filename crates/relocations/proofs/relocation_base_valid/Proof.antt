@@ -1,16 +1,9 @@
-use mathlib.Core.Path.{_≡_, ap, sym, _∙_}
-use mathlib.Core.Bool.{true, false}
-use denote.Ref.{now}
-use Rattle.igvm_defs.specs.Refusals.{isRefusal, inRow}
-use Rattle.sheet.specs.Head.{limits}
-use Rattle.sheet.proofs.Readable.{readable-bounds}
-use Rattle.sheet.specs.Read.{Readable}
-use Rattle.rules.specs.declared.IgvmRelocatableRegion.{IgvmRelocatableRegion}
-use Rattle.rules.specs.Relocations.{relocationBaseValid}
+use Rattle.rows.proofs.Kit.{_≡_, sym, _∙_, false, now, needs}
+use Rattle.igvm_defs.specs.Refusals.{isRefusal}
+use Rattle.sheet.{specs.Head.limits, proofs.Readable.readable-bounds, specs.Read.Readable}
+use Rattle.rules.{specs.declared.IgvmRelocatableRegion.IgvmRelocatableRegion, specs.Relocations.relocationBaseValid}
 use Rattle.answers.specs.Relocations.{checkRefusal}
-use Rattle.relocations.proofs.CallLaws.{check-readable, check-refused, check-holds}
-use borrow.Author.Needs.{needs}
-use Rattle.relocations.proofs.relocation_base_valid.Statement.{statement}
+use Rattle.relocations.proofs.{CallLaws.{check-readable, check-refused, check-holds}, relocation_base_valid.Statement.statement}
 use Rattle.relocations.proofs.relocation_base_valid.Tie as tie
 
 -- nothing is refused
@@ -19,12 +12,6 @@ not-refused c = rw (c .before .before .check-refusal .ensures) at (sym (c .befor
 
 passed : (c : tie.Else1) → Readable limits (now (c .before .before .before .before .args .s))
 passed c = check-readable limits _ _ _ (not-refused c)
-
-check-refusal-requires : tie.Need-check-refusal-requires
-check-refusal-requires c κs = search needs
-
-is-refusal-requires : tie.Need-is-refusal-requires
-is-refusal-requires c κs = search needs
 
 returns : tie.Need-returns
 returns c =
@@ -40,9 +27,6 @@ region-at-requires : tie.Need-region-at-requires
 region-at-requires c κs =
     (passed (c .before), c .new .ensures)
 
-base-valid-requires : tie.Need-base-valid-requires
-base-valid-requires c κs = search needs
-
 returns-2 : tie.Need-returns-2
 returns-2 c =
     let d = c .before .before .before .before .before in
@@ -52,12 +36,5 @@ returns-2 c =
 
 pub relocation-base-valid-spec : {M : Type 1} → statement M
 relocation-base-valid-spec =
-    tie.close
-    (tie.spec
-    check-refusal-requires
-    is-refusal-requires
-    returns
-    new-requires
-    region-at-requires
-    base-valid-requires
+    tie.close (tie.spec (λ c κs. search needs) (λ c κs. search needs) returns new-requires region-at-requires (λ c κs. search needs)
     returns-2)

@@ -1,17 +1,9 @@
-use mathlib.Core.Path.{_≡_, ap, sym, _∙_}
-use mathlib.Core.Bool.{true, false}
-use denote.Ref.{now}
-use Rattle.igvm_defs.specs.Refusals.{isRefusal, inRow}
-use Rattle.sheet.specs.Head.{limits}
-use Rattle.sheet.proofs.Readable.{readable-bounds}
-use Rattle.sheet.specs.Read.{Readable}
-use mathlib.Core.Option.{none}
-use lib.ListN.{length}
+use Rattle.rows.proofs.Kit.{_≡_, ap, sym, _∙_, false, now, none, length, needs}
+use Rattle.igvm_defs.specs.Refusals.{isRefusal}
+use Rattle.sheet.{specs.Head.limits, proofs.Readable.readable-bounds, specs.Read.Readable}
 use Rattle.rules.specs.Relocations.{pageTableAt}
 use Rattle.answers.specs.Relocations.{sheetInitializations, foundOf, relocationsRefusal}
-use Rattle.relocations.proofs.CallLaws.{list-readable, refused-answer, refused-words, found-table, found-answer, found-words, room}
-use borrow.Author.Needs.{needs}
-use Rattle.relocations.proofs.relocations.Statement.{statement}
+use Rattle.relocations.proofs.{CallLaws.{list-readable, refused-answer, refused-words, found-table, found-answer, found-words, room}, relocations.Statement.statement}
 use Rattle.relocations.proofs.relocations.Tie as tie
 
 -- nothing is refused
@@ -21,15 +13,6 @@ not-refused c = rw (c .before .before .relocations-query .ensures) at (sym (c .b
 
 passed : (c : tie.Else1) → Readable limits (now (c .before .before .before .before .before .args .s))
 passed c = list-readable limits _ _ _ (not-refused c)
-
-relocations-query-requires : tie.Need-relocations-query-requires
-relocations-query-requires c κs = search needs
-
-is-refusal-requires : tie.Need-is-refusal-requires
-is-refusal-requires c κs = search needs
-
-refused-relocations-requires : tie.Need-refused-relocations-requires
-refused-relocations-requires c κs = search needs
 
 returns : tie.Need-returns
 returns c =
@@ -50,12 +33,6 @@ put-regions-requires c κs =
     let a = d .before .before .before .before .before .args in
     (passed d, c .before .new .ensures, room limits (now (a .s)) (a .given) (length (now (a .words))) (not-refused d))
 
-found-requires : tie.Need-found-requires
-found-requires c κs = search needs
-
-same-length : tie.Need-same-length
-same-length c = search needs
-
 returns-2 : tie.Need-returns-2
 returns-2 c =
     let d = c .before .before .before .before .before .before in
@@ -69,14 +46,5 @@ returns-2 c =
 
 pub relocations-spec : {M : Type 1} → statement M
 relocations-spec =
-    tie.close
-    (tie.spec
-    relocations-query-requires
-    is-refusal-requires
-    refused-relocations-requires
-    returns
-    new-requires
-    put-regions-requires
-    found-requires
-    same-length
-    returns-2)
+    tie.close (tie.spec (λ c κs. search needs) (λ c κs. search needs) (λ c κs. search needs) returns new-requires put-regions-requires
+    (λ c κs. search needs) (λ c. search needs) returns-2)

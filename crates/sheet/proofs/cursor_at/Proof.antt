@@ -1,12 +1,6 @@
-use mathlib.Core.Path.{_≡_}
-use Prim.Native.Nat.{_≤_, _-_}
-use native.Mathlib.Omega.{arith}
-use borrow.Author.Needs.{needs}
-use denote.Ref.{now}
-use Rattle.sheet.specs.Head.{limits}
-use Rattle.sheet.specs.Walk.{cursorAt}
-use Rattle.sheet.proofs.Readable.{offset-first, readable-bounds, at-row}
-use Rattle.sheet.proofs.cursor_at.Statement.{statement}
+use Rattle.rows.proofs.Kit.{_≡_, _≤_, _-_, arith, needs, now}
+use Rattle.sheet.specs.{Head.limits, Walk.cursorAt}
+use Rattle.sheet.proofs.{Readable.{offset-first, readable-bounds, at-row}, cursor_at.Statement.statement}
 use Rattle.sheet.proofs.cursor_at.Tie as tie
 
 abbrev Inv-loop : tie.InvT-loop
@@ -19,9 +13,6 @@ new-requires : tie.Need-new-requires Inv-loop μ-loop
 new-requires c κs =
     let b = readable-bounds (now (c .before .args .s)) (c .before .pre .0) in
     omega arith
-
-rows-requires : tie.Need-rows-requires Inv-loop μ-loop
-rows-requires c κs = search needs
 
 new-requires-2 : tie.Need-new-requires-2 Inv-loop μ-loop
 new-requires-2 c κs =
@@ -40,12 +31,6 @@ next-requires c κs =
     let st = c .before .before .before .before .before .before in
     rw (l .inv .1) (at-row limits (now (st .args .s)) (st .pre .0) (l .i) (omega arith))
 
-add-i : tie.Need-add-i Inv-loop μ-loop
-add-i c = search needs
-
-loop-less : tie.Need-loop-less Inv-loop μ-loop
-loop-less c = search needs
-
 loop-again : tie.Need-loop-again Inv-loop μ-loop
 loop-again c =
     let l = c .before .before .loop in
@@ -59,16 +44,5 @@ returns c =
 
 pub cursor-at-spec : {M : Type 1} → statement M
 cursor-at-spec =
-    tie.close
-    (tie.spec
-    Inv-loop
-    μ-loop
-    new-requires
-    rows-requires
-    new-requires-2
-    loop-holds
-    next-requires
-    add-i
-    loop-less
-    loop-again
-    returns)
+    tie.close (tie.spec Inv-loop μ-loop new-requires (λ c κs. search needs) new-requires-2 loop-holds next-requires (λ c. search needs)
+    (λ c. search needs) loop-again returns)

@@ -1,21 +1,6 @@
-use mathlib.Core.Path.{_≡_}
-use Prim.Native.Nat.{_+_, _-_}
-use native.Mathlib.Omega.{arith}
-use borrow.Author.Needs.{needs}
+use Rattle.rows.proofs.Kit.{_≡_, _+_, _-_, arith, needs}
 use Rattle.sheet.proofs.part.Statement.{statement}
 use Rattle.sheet.proofs.part.Tie as tie
-
-add-result : tie.Need-add-result
-add-result c = search needs
-
-sub-result : tie.Need-sub-result
-sub-result c = search needs
-
-part-result-start : tie.Need-part-result-start
-part-result-start c = search needs
-
-part-result-end : tie.Need-part-result-end
-part-result-end c = search needs
 
 returns : tie.Need-returns
 returns c =
@@ -24,4 +9,4 @@ returns c =
     rw z
 
 pub part-spec : {M : Type 1} → statement M
-part-spec = tie.close (tie.spec add-result sub-result part-result-start part-result-end returns)
+part-spec = tie.close (tie.spec (λ c. search needs) (λ c. search needs) (λ c. search needs) (λ c. search needs) returns)

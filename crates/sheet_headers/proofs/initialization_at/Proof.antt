@@ -1,13 +1,7 @@
+use Rattle.rows.proofs.Kit.{needs}
 use Rattle.sheet.proofs.Readable.{body-least}
-use borrow.Author.Needs.{needs}
 use Rattle.sheet_headers.proofs.initialization_at.Statement.{statement}
 use Rattle.sheet_headers.proofs.initialization_at.Tie as tie
-
-kind-requires : tie.Need-kind-requires
-kind-requires c κs = search needs
-
-body-requires : tie.Need-body-requires
-body-requires c κs = search needs
 
 decode-requires : tie.Need-decode-requires
 decode-requires c κs =
@@ -15,8 +9,5 @@ decode-requires c κs =
     let pre = c .before .before .before .pre in
     (rw k (pre .1), rw (k, c .body .ensures) (body-least _ _ (pre .0)))
 
-returns : tie.Need-returns
-returns c = cc
-
 pub initialization-at-spec : {M : Type 1} → statement M
-initialization-at-spec = tie.close (tie.spec kind-requires body-requires decode-requires returns)
+initialization-at-spec = tie.close (tie.spec (λ c κs. search needs) (λ c κs. search needs) decode-requires (λ c. cc))

@@ -1,9 +1,6 @@
-use mathlib.Core.Path.{_≡_, _∙_}
-use denote.Ref.{now}
-use borrow.Author.Needs.{needs}
-use Rattle.sheet.specs.Table.{rowKind, bodyOf}
+use Rattle.rows.proofs.Kit.{_≡_, _∙_, now, needs}
+use Rattle.sheet.{specs.Table.{rowKind, bodyOf}, proofs.Readable.body-least}
 use Rattle.sheet_reader.proofs.ReaderLaws.{row-at-cursor, body-at-cursor}
-use Rattle.sheet.proofs.Readable.{body-least}
 use Rattle.sheet_headers.proofs.platform_at.Statement.{statement}
 use Rattle.sheet_headers.proofs.platform_at.Tie as tie
 
@@ -16,19 +13,12 @@ kind c =
 body : (c : tie.After-body-of) → let a = c .before .before .before .args in now (c .body-of .result) ≡ bodyOf (now (a .s)) (a .c .row)
 body c = c .body-of .ensures ∙ body-at-cursor _ _ (c .before .before .before .pre .0)
 
-read-row-requires : tie.Need-read-row-requires
-read-row-requires c κs = search needs
-
-body-of-requires : tie.Need-body-of-requires
-body-of-requires c κs = search needs
-
 decode-requires : tie.Need-decode-requires
 decode-requires c κs =
     let pre = c .before .before .before .pre in
     (rw (kind c) (pre .1), rw (kind c, body c) (body-least _ _ (pre .0)))
 
-returns : tie.Need-returns
-returns c = rw (c .decode .ensures, kind (c .before), body (c .before))
-
 pub platform-at-spec : {M : Type 1} → statement M
-platform-at-spec = tie.close (tie.spec read-row-requires body-of-requires decode-requires returns)
+platform-at-spec =
+    tie.close (tie.spec (λ c κs. search needs) (λ c κs. search needs) decode-requires
+    (λ c. rw (c .decode .ensures, kind (c .before), body (c .before))))

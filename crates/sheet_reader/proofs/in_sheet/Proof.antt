@@ -1,10 +1,4 @@
-use Prim.Native.Nat.{_+_, _*_, _-_}
-use native.Mathlib.Omega.{arith}
-use lib.ListN.{length}
-use denote.Ref.{now}
-use borrow.Author.Needs.{needs}
-use borrow.Author.Tests.{le-leb, lt-leb}
-use Rattle.rows.proofs.Bools.{leb-same}
+use Rattle.rows.{proofs.Kit.{_+_, _*_, _-_, arith, length, now, needs, le-leb, lt-leb}, proofs.Bools.leb-same}
 use Rattle.sheet.specs.Table.{rowLength}
 use Rattle.sheet_reader.specs.Reading.{inSheet}
 use Rattle.sheet_reader.proofs.in_sheet.Statement.{statement}
@@ -29,9 +23,6 @@ returns-3 c =
     let n = length (now (a .s)) in
     rw (le-leb (24 + 8 * a .row) n (omega arith), lt-leb (a .at + rowLength (now (a .s)) (a .row)) n (omega arith))
 
-length-at-requires : tie.Need-length-at-requires
-length-at-requires c κs = search needs
-
 returns-4 : tie.Need-returns-4
 unfolding inSheet
 returns-4 c =
@@ -42,4 +33,4 @@ returns-4 c =
     (leb-same len (n - a .at) (a .at + len) n (λ h. omega arith) (λ h. omega arith))
 
 pub in-sheet-spec : {M : Type 1} → statement M
-in-sheet-spec = tie.close (tie.spec returns returns-2 returns-3 length-at-requires returns-4)
+in-sheet-spec = tie.close (tie.spec returns returns-2 returns-3 (λ c κs. search needs) returns-4)

@@ -1,7 +1,4 @@
-use mathlib.Core.Path.{ap}
-use Prim.Native.Nat.{ℕ}
-use native.Mathlib.Omega.{arith}
-use borrow.Author.Tests.{ne-eqb}
+use Rattle.rows.proofs.Kit.{ap, ℕ, arith, ne-eqb}
 use Rattle.igvm_defs.specs.Kinds.{kindOf, spans}
 use Rattle.sheet.specs.Read.{codesOk}
 use Rattle.sheet_rows.proofs.codes_ok.Statement.{statement}
@@ -59,17 +56,5 @@ returns-6 c =
 
 pub codes-ok-spec : {M : Type 1} → statement M
 codes-ok-spec =
-    tie.close
-    (tie.spec
-    shared-slice-read-result
-    shared-slice-read-result-2
-    shared-slice-read-result-3
-    shared-slice-read-result-4
-    shared-slice-read-result-5
-    shared-slice-read-result-6
-    returns
-    returns-2
-    returns-3
-    returns-4
-    returns-5
-    returns-6)
+    tie.close (tie.spec shared-slice-read-result shared-slice-read-result-2 shared-slice-read-result-3 shared-slice-read-result-4
+    shared-slice-read-result-5 shared-slice-read-result-6 returns returns-2 returns-3 returns-4 returns-5 returns-6)

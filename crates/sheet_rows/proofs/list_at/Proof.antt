@@ -1,21 +1,11 @@
-use borrow.Author.Needs.{needs}
-use borrow.Author.Tests.{lt-ltb, le-ltb}
+use Rattle.rows.proofs.Kit.{needs, lt-ltb, le-ltb}
 use Rattle.sheet.specs.Read.{listAt}
 use Rattle.sheet_rows.proofs.list_at.Statement.{statement}
 use Rattle.sheet_rows.proofs.list_at.Tie as tie
 
-cast-p : tie.Need-cast-p
-cast-p c = search needs
-
-cast-i : tie.Need-cast-i
-cast-i c = search needs
-
 returns : tie.Need-returns
 unfolding listAt
 returns c = rw (lt-ltb _ _ (c .if1 .taken))
-
-add-if2 : tie.Need-add-if2
-add-if2 c = search needs
 
 returns-2 : tie.Need-returns-2
 unfolding listAt
@@ -26,4 +16,4 @@ unfolding listAt
 returns-3 c = rw (le-ltb _ _ (c .before .if1 .left), le-ltb _ _ (c .if2 .left))
 
 pub list-at-spec : {M : Type 1} → statement M
-list-at-spec = tie.close (tie.spec cast-p cast-i returns add-if2 returns-2 returns-3)
+list-at-spec = tie.close (tie.spec (λ c. search needs) (λ c. search needs) returns (λ c. search needs) returns-2 returns-3)

@@ -1,24 +1,9 @@
-use mathlib.Core.Path.{_≡_, sym, ap, _∙_}
-use mathlib.Core.Bool.{true, false}
-use mathlib.Core.List.{List}
-use Prim.Native.Nat.{ℕ, _≤_, _-_}
-use native.Mathlib.Omega.{arith}
-use lib.ListN.{length}
-use borrow.Author.Needs.{needs}
 use borrow.Author.Count.{below-more}
-use borrow.Author.Tests.{not-false}
-use denote.Ref.{now}
+use Rattle.rows.proofs.Kit.{_≡_, sym, ap, _∙_, true, false, List, ℕ, _≤_, _-_, arith, length, needs, not-false, now}
 use Rattle.igvm_defs.specs.Refusals.{isFault}
-use Rattle.sheet.specs.declared.Cursor.{Cursor}
-use Rattle.sheet.specs.declared.SheetHead.{SheetHead}
-use Rattle.sheet.specs.Head.{headOf, rowCount}
-use Rattle.sheet.specs.Table.{offsetOf}
-use Rattle.sheet.specs.Read.{rowFault}
-use Rattle.sheet.specs.Walk.{cursorAt}
+use Rattle.sheet.{specs.declared.Cursor.Cursor, specs.declared.SheetHead.SheetHead, specs.Head.{headOf, rowCount}, specs.Table.offsetOf, specs.Read.rowFault, specs.Walk.cursorAt, proofs.Readable.offset-next}
 use Rattle.sheet_rows.specs.Pages.{pageFits, PagesRead}
-use Rattle.sheet_rows.proofs.RowLaws.{page-passes}
-use Rattle.sheet.proofs.Readable.{offset-next}
-use Rattle.sheet_rows.proofs.past_pages.Statement.{statement}
+use Rattle.sheet_rows.proofs.{RowLaws.page-passes, past_pages.Statement.statement}
 use Rattle.sheet_rows.proofs.past_pages.Tie as tie
 
 abbrev Inv-loop : tie.InvT-loop
@@ -32,18 +17,6 @@ none : (s : List ℕ) (h : SheetHead) (c : Cursor) → h ≡ headOf s → c ≡ 
 none s h c e at room high =
     record { at = at; low = omega arith; high = rw (← e) high; room = room; rows = λ k l m. absurd (omega arith) }
 
-rows-requires : tie.Need-rows-requires Inv-loop μ-loop
-rows-requires c κs = search needs
-
-cast-if1 : tie.Need-cast-if1 Inv-loop μ-loop
-cast-if1 c = search needs
-
-cast-if1-2 : tie.Need-cast-if1-2 Inv-loop μ-loop
-cast-if1-2 c = search needs
-
-add-if1 : tie.Need-add-if1 Inv-loop μ-loop
-add-if1 c = search needs
-
 returns : tie.Need-returns Inv-loop μ-loop
 returns c = let st = c .before .before .before .before .before .before in none _ _ _ (st .pre .0 .0) (st .pre .1 .0) (st .pre .1 .1) (st .pre .1 .2)
 
@@ -56,12 +29,6 @@ is-page-requires c κs =
     let n = c .before .before .before .before .before .before .before .rows .ensures in
     (omega arith, c .before .before .loop .inv .room)
 
-returns-2 : tie.Need-returns-2 Inv-loop μ-loop
-returns-2 c = c .before .before .before .before .loop .inv
-
-add-t14 : tie.Need-add-t14 Inv-loop μ-loop
-add-t14 c = omega arith
-
 length-at-requires : tie.Need-length-at-requires Inv-loop μ-loop
 length-at-requires c κs =
     let t = c .before .before .if2 .taken in
@@ -70,9 +37,6 @@ length-at-requires c κs =
 
 add-t16 : tie.Need-add-t16 Inv-loop μ-loop
 add-t16 c = let room = c .before .before .before .before .before .loop .inv .room in omega arith
-
-loop-less : tie.Need-loop-less Inv-loop μ-loop
-loop-less c = let t = c .before .before .before .if2 .taken in omega arith
 
 loop-again : tie.Need-loop-again Inv-loop μ-loop
 loop-again c =
@@ -97,26 +61,8 @@ loop-again c =
       rows = λ k m q. below-more (λ (j : ℕ). st .args .from .row ≤ j → isFault (rowFault s j) ≡ false) (l .c .row) (λ j q m. p .rows j m q) (λ m. good) k q m;
     }
 
-returns-3 : tie.Need-returns-3 Inv-loop μ-loop
-returns-3 c = c .before .before .loop .inv
-
 pub past-pages-spec : {M : Type 1} → statement M
 past-pages-spec =
-    tie.close
-    (tie.spec
-    Inv-loop
-    μ-loop
-    rows-requires
-    cast-if1
-    cast-if1-2
-    add-if1
-    returns
-    loop-holds
-    is-page-requires
-    returns-2
-    add-t14
-    length-at-requires
-    add-t16
-    loop-less
-    loop-again
-    returns-3)
+    tie.close (tie.spec Inv-loop μ-loop (λ c κs. search needs) (λ c. search needs) (λ c. search needs) (λ c. search needs) returns
+    loop-holds is-page-requires (λ c. c .before .before .before .before .loop .inv) (λ c. omega arith) length-at-requires add-t16
+    (λ c. let t = c .before .before .before .if2 .taken in omega arith) loop-again (λ c. c .before .before .loop .inv))

@@ -1,22 +1,7 @@
-use mathlib.Core.Path.{_≡_, refl, _∙_, ap}
-use mathlib.Core.Bool.{true, false}
-use Prim.Native.Nat.{_≤_, _-_, _<_, _+_}
-use native.Mathlib.Omega.{arith}
-use lib.ListN.{length}
-use borrow.Author.Needs.{needs}
-use denote.Ref.{now}
-use Rattle.igvm_defs.specs.Kinds.{kindOf}
-use Rattle.igvm_defs.specs.Refusals.{isFault}
-use Rattle.igvm_defs.proofs.LengthLaws.{length-least}
-use Rattle.sheet.specs.declared.Cursor.{Cursor}
-use Rattle.sheet.specs.Head.{headOf, rowCount}
-use Rattle.sheet.specs.Read.{rowFault, endFault}
-use Rattle.sheet.specs.Table.{rowKind, rowLength, offsetOf}
-use Rattle.sheet.specs.Walk.{cursorAt, Passed}
-use Rattle.sheet.proofs.ReadLaws.{passed-more, rows-end}
-use Rattle.sheet_rows.proofs.RowLaws.{passed-to, rows-stop}
-use Rattle.sheet.proofs.Readable.{RowOk, offset-next, row-says}
-use Rattle.sheet_rows.proofs.read_from.Statement.{statement}
+use Rattle.rows.proofs.Kit.{_≡_, refl, _∙_, ap, true, false, _≤_, _-_, _<_, _+_, arith, length, needs, now}
+use Rattle.igvm_defs.{specs.Kinds.kindOf, specs.Refusals.isFault, proofs.LengthLaws.length-least}
+use Rattle.sheet.{specs.declared.Cursor.Cursor, specs.Head.{headOf, rowCount}, specs.Read.{rowFault, endFault}, specs.Table.{rowKind, rowLength, offsetOf}, specs.Walk.{cursorAt, Passed}, proofs.ReadLaws.{passed-more, rows-end}, proofs.Readable.{RowOk, offset-next, row-says}}
+use Rattle.sheet_rows.proofs.{RowLaws.{passed-to, rows-stop}, read_from.Statement.statement}
 use Rattle.sheet_rows.proofs.read_from.Tie as tie
 
 abbrev Inv-loop : tie.InvT-loop
@@ -32,26 +17,8 @@ passes c = rw (← c .before .before .row-fault .ensures, ← c .before .is-faul
 fine : (c : tie.Else2 Inv-loop μ-loop) → RowOk (now (c .before .before .before .before .before .before .before .before .before .before .before .before .args .s)) (c .before .before .before .before .before .before .before .before .loop .c .row)
 fine c = row-says (now (c .before .before .before .before .before .before .before .before .before .before .before .before .args .s)) (c .before .before .before .before .before .before .before .before .loop .c .row) .0 (passes c)
 
-kinds-requires : tie.Need-kinds-requires Inv-loop μ-loop
-kinds-requires c κs = search needs
-
-rows-requires : tie.Need-rows-requires Inv-loop μ-loop
-rows-requires c κs = search needs
-
 loop-holds : tie.Need-loop-holds Inv-loop μ-loop
 loop-holds c = let (at, low, room, passed) = c .before .before .before .pre .1 in (at, rw (c .rows .ensures) low, room, passed)
-
-kind-at-requires : tie.Need-kind-at-requires Inv-loop μ-loop
-kind-at-requires c κs = omega arith
-
-kind-index-requires : tie.Need-kind-index-requires Inv-loop μ-loop
-kind-index-requires c κs = search needs
-
-mul-row-fault : tie.Need-mul-row-fault Inv-loop μ-loop
-mul-row-fault c = search needs
-
-array-copy-out-row-fault : tie.Need-array-copy-out-row-fault Inv-loop μ-loop
-array-copy-out-row-fault c = search needs
 
 row-fault-requires : tie.Need-row-fault-requires Inv-loop μ-loop
 row-fault-requires c κs =
@@ -60,15 +27,6 @@ row-fault-requires c κs =
     let i = c .before .kind-index in
     let t = p .before .before .kinds .ensures (i .result) (i .ensures .0) ∙ i .ensures .1 ∙ ap kindOf (c .before .before .kind-at .ensures) in
     ((p .before .before .before .before .pre .0 .0, omega arith, ap (λ (x : Cursor). x .at) (l .inv .0), l .inv .2), t)
-
-is-fault-requires : tie.Need-is-fault-requires Inv-loop μ-loop
-is-fault-requires c κs = search needs
-
-add-in-row : tie.Need-add-in-row Inv-loop μ-loop
-add-in-row c = search needs
-
-in-row-requires : tie.Need-in-row-requires Inv-loop μ-loop
-in-row-requires c κs = search needs
 
 returns : tie.Need-returns Inv-loop μ-loop
 returns c =
@@ -124,12 +82,6 @@ loop-again c =
       passed-to s (l .c .row + 1) (c .past-pages .result .row) (passed-more s (l .c .row) (l .inv .3) (passes (c .before .before))) (λ j m g. q .rows j (omega arith) g),
     )
 
-refuse-requires : tie.Need-refuse-requires Inv-loop μ-loop
-refuse-requires c κs = search needs
-
-in-row-requires-2 : tie.Need-in-row-requires-2 Inv-loop μ-loop
-in-row-requires-2 c κs = search needs
-
 returns-2 : tie.Need-returns-2 Inv-loop μ-loop
 unfolding endFault
 returns-2 c =
@@ -142,26 +94,7 @@ returns-2 c =
 
 pub read-from-spec : {M : Type 1} → statement M
 read-from-spec =
-    tie.close
-    (tie.spec
-    Inv-loop
-    μ-loop
-    kinds-requires
-    rows-requires
-    loop-holds
-    kind-at-requires
-    kind-index-requires
-    mul-row-fault
-    array-copy-out-row-fault
-    row-fault-requires
-    is-fault-requires
-    add-in-row
-    in-row-requires
-    returns
-    next-requires
-    past-pages-requires
-    loop-less
-    loop-again
-    refuse-requires
-    in-row-requires-2
+    tie.close (tie.spec Inv-loop μ-loop (λ c κs. search needs) (λ c κs. search needs) loop-holds (λ c κs. omega arith)
+    (λ c κs. search needs) (λ c. search needs) (λ c. search needs) row-fault-requires (λ c κs. search needs) (λ c. search needs)
+    (λ c κs. search needs) returns next-requires past-pages-requires loop-less loop-again (λ c κs. search needs) (λ c κs. search needs)
     returns-2)

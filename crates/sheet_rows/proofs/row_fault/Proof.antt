@@ -1,17 +1,6 @@
-use mathlib.Core.Path.{_≡_, sym, _∙_}
-use mathlib.Core.Bool.{true}
-use Prim.Native.Nat.{_+_}
-use native.Mathlib.Omega.{arith}
-use lib.Dec.{eqb}
-use lib.ListN.{length, length-take, length-drop}
-use borrow.Author.Needs.{needs}
-use borrow.Author.Tests.{eq-eqb, ne-eqb, lt-ltb, le-ltb, not-true, not-false}
-use denote.Ref.{now}
-use Rattle.igvm_defs.proofs.LengthLaws.{length-least}
-use Rattle.igvm_defs.specs.Kinds.{kindOf, lengthOk}
-use Rattle.sheet.specs.Head.{headOf}
-use Rattle.sheet.specs.Read.{listAt, rowFault}
-use Rattle.sheet.specs.Table.{rowKind, rowLength, offsetOf, bodyOf}
+use Rattle.rows.proofs.Kit.{_≡_, sym, _∙_, true, _+_, arith, eqb, length, length-take, length-drop, needs, eq-eqb, ne-eqb, lt-ltb, le-ltb, not-true, not-false, now}
+use Rattle.igvm_defs.{proofs.LengthLaws.length-least, specs.Kinds.{kindOf, lengthOk}}
+use Rattle.sheet.{specs.Head.headOf, specs.Read.{listAt, rowFault}, specs.Table.{rowKind, rowLength, offsetOf, bodyOf}}
 use Rattle.sheet_rows.proofs.row_fault.Statement.{statement}
 use Rattle.sheet_rows.proofs.row_fault.Tie as tie
 
@@ -30,30 +19,15 @@ long-test c =
 long : (c : tie.Else2) → c .before .length-ok .result ≡ true
 long c = not-false (c .before .length-ok .result) (c .if2 .left)
 
-kind-at-requires : tie.Need-kind-at-requires
-kind-at-requires c κs = search needs
-
-length-at-requires : tie.Need-length-at-requires
-length-at-requires c κs = search needs
-
-list-at-requires : tie.Need-list-at-requires
-list-at-requires c κs = search needs
-
 returns : tie.Need-returns
 unfolding rowFault
 returns c = rw (list-test (c .before .before), ne-eqb _ _ (c .if1 .taken))
-
-length-ok-requires : tie.Need-length-ok-requires
-length-ok-requires c κs = search needs
 
 returns-2 : tie.Need-returns-2
 unfolding rowFault
 returns-2 c =
     let b = c .before in
     rw (list-test (b .before .before .before), eq-eqb _ _ (b .before .if1 .left), long-test b, not-true (b .length-ok .result) (c .if2 .taken))
-
-sub-if3 : tie.Need-sub-if3
-sub-if3 c = search needs
 
 returns-3 : tie.Need-returns-3
 unfolding rowFault
@@ -70,9 +44,6 @@ returns-3 c =
       lt-ltb (length s) (offsetOf s (a .k) + rowLength s (a .k)) (omega arith),
     )
 
-part-requires : tie.Need-part-requires
-part-requires c κs = search needs
-
 codes-ok-requires : tie.Need-codes-ok-requires
 codes-ok-requires c κs =
     let e = c .before .before in
@@ -80,9 +51,6 @@ codes-ok-requires c κs =
     let st = n .before .before .before in
     let least = length-least (st .args .t) (n .length-at .result) (sym (e .before .length-ok .ensures) ∙ long e) in
     rw (c .part .ensures, n .before .kind-at .ensures, ← st .pre .1) (simp (length-take, length-drop) (omega arith))
-
-refuse-requires : tie.Need-refuse-requires
-refuse-requires c κs = search needs
 
 returns-4 : tie.Need-returns-4
 unfolding rowFault bodyOf
@@ -102,17 +70,5 @@ returns-4 c =
 
 pub row-fault-spec : {M : Type 1} → statement M
 row-fault-spec =
-    tie.close
-    (tie.spec
-    kind-at-requires
-    length-at-requires
-    list-at-requires
-    returns
-    length-ok-requires
-    returns-2
-    sub-if3
-    returns-3
-    part-requires
-    codes-ok-requires
-    refuse-requires
-    returns-4)
+    tie.close (tie.spec (λ c κs. search needs) (λ c κs. search needs) (λ c κs. search needs) returns (λ c κs. search needs) returns-2
+    (λ c. search needs) returns-3 (λ c κs. search needs) codes-ok-requires (λ c κs. search needs) returns-4)

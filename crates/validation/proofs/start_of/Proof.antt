@@ -1,25 +1,10 @@
-use Prim.Native.Nat.{_-_, _+_}
-use native.Mathlib.Omega.{arith}
-use mathlib.Core.Path.{_≡_, ap, _∙_}
-use borrow.Author.Needs.{needs}
-use denote.Ref.{now}
-use Rattle.rows.specs.Below.{anyBelow}
-use Rattle.sheet.specs.declared.SheetHead.{SheetHead}
-use Rattle.sheet.specs.declared.Cursor.{Cursor}
-use Rattle.sheet_headers.specs.Headers.{sheetHeaders}
+use Rattle.rows.{proofs.Kit.{_-_, _+_, arith, _≡_, ap, _∙_, needs, now}, specs.Below.anyBelow}
+use Rattle.sheet.{specs.declared.SheetHead.SheetHead, specs.declared.Cursor.Cursor}
 use Rattle.directive_check.proofs.DirectiveRecordLaws.{holds-no-contexts}
+use Rattle.sheet_headers.specs.Headers.{sheetHeaders}
 use Rattle.directive_accept.specs.Accepted.{firstDirective}
 use Rattle.validation.proofs.start_of.Statement.{statement}
 use Rattle.validation.proofs.start_of.Tie as tie
-
-cast-first : tie.Need-cast-first
-cast-first c = search needs
-
-cast-first-2 : tie.Need-cast-first-2
-cast-first-2 c = search needs
-
-add-first : tie.Need-add-first
-add-first c = search needs
 
 cursor-at-requires : tie.Need-cursor-at-requires
 cursor-at-requires c κs = let st = c .before .before .before .before .before in (st .pre .0, rw (st .pre .1) (omega arith))
@@ -45,5 +30,4 @@ returns-2 c =
     ((a .read .at, a .low, a .read .high), (a .good, a .holds))
 
 pub start-of-spec : {M : Type 1} → statement M
-start-of-spec =
-    tie.close (tie.spec cast-first cast-first-2 add-first cursor-at-requires returns returns-2)
+start-of-spec = tie.close (tie.spec (λ c. search needs) (λ c. search needs) (λ c. search needs) cursor-at-requires returns returns-2)

@@ -1,24 +1,8 @@
-use Rattle.validation.proofs.VerdictLaws.{verdict-rows, verdict-size, sheet-none, later}
-use Rattle.sheet.proofs.Readable.{start-says}
-use Rattle.sheet.specs.Read.{rowsRefusal}
-use Rattle.sheet.specs.Head.{limits, headOf, pageSizeFault}
-use Rattle.sheet.specs.declared.SheetHead.{SheetHead}
+use Rattle.rows.{proofs.Bools.not-both, proofs.Kit.{now, true, false, _≡_, sym, ap, _∙_, needs}}
 use Rattle.igvm_defs.specs.Refusals.{isRefusal, inRow}
-use Rattle.rows.proofs.Bools.{not-both}
-use denote.Ref.{now}
-use mathlib.Core.Bool.{true, false}
-use mathlib.Core.Path.{_≡_, sym, ap, _∙_}
-use borrow.Author.Needs.{needs}
-use Rattle.validation.proofs.validate_from.Statement.{statement}
+use Rattle.sheet.{proofs.Readable.start-says, specs.Read.rowsRefusal, specs.Head.{limits, headOf, pageSizeFault}}
+use Rattle.validation.proofs.{VerdictLaws.{verdict-rows, verdict-size, sheet-none, later}, validate_from.Statement.statement}
 use Rattle.validation.proofs.validate_from.Tie as tie
-use Rattle.validation.proofs.validate_from.Reads as reads
-use Rattle.validation.proofs.validate_from.Lts as lts
-use Rattle.validation.proofs.no_contexts.Reads as no-contexts-reads
-use Rattle.validation.proofs.validate_headers.Reads as validate-headers-reads
-use Rattle.igvm_defs.proofs.Fault.in_row.Reads as in-row-reads
-use Rattle.igvm_defs.proofs.Refusal.is_refusal.Reads as is-refusal-reads
-use Rattle.sheet.proofs.SheetHead.page_size_fault.Reads as page-size-fault-reads
-use Rattle.sheet_rows.proofs.read_from.Reads as read-from-reads
 
 rows-passed : (c : tie.Else1) → isRefusal (rowsRefusal (now (c .before .before .before .before .args .s))) ≡ false
 rows-passed c = rw (← c .before .before .read-from .ensures, ← c .before .is-refusal .ensures) (c .if1 .left)
@@ -34,13 +18,7 @@ read-from-requires c κs =
     ((p .1, rw (p .1) (start-says limits _ .0 (p .0) .table)), (r .at, rw (p .1) (r .high), r .room, r .passed))
 
 -- src/lib.rt:78:8
-is-refusal-requires : tie.Need-is-refusal-requires
-is-refusal-requires c κs = search needs
-
 -- src/lib.rt:79:9
-no-contexts-requires : tie.Need-no-contexts-requires
-no-contexts-requires c κs = search needs
-
 -- src/lib.rt:79:9
 returns : tie.Need-returns
 returns c =
@@ -49,21 +27,9 @@ returns c =
     record { told = rw (c .no-contexts .ensures, told) (sym (verdict-rows limits _ (c .before .before .before .before .before .pre .0) (rw told at t))); holds = λ f. not-both (rw (c .no-contexts .ensures) at f) t }
 
 -- src/lib.rt:81:16
-page-size-fault-requires : tie.Need-page-size-fault-requires
-page-size-fault-requires c κs = search needs
-
 -- src/lib.rt:81:9
-in-row-requires : tie.Need-in-row-requires
-in-row-requires c κs = search needs
-
 -- src/lib.rt:82:8
-is-refusal-requires-2 : tie.Need-is-refusal-requires-2
-is-refusal-requires-2 c κs = search needs
-
 -- src/lib.rt:83:9
-no-contexts-requires-2 : tie.Need-no-contexts-requires-2
-no-contexts-requires-2 c κs = search needs
-
 -- src/lib.rt:83:9
 returns-2 : tie.Need-returns-2
 returns-2 c =
@@ -85,16 +51,5 @@ returns-3 c =
 
 pub validate-from-spec : {M : Type 1} → statement M
 validate-from-spec =
-    tie.close
-    (tie.spec
-    read-from-requires
-    is-refusal-requires
-    no-contexts-requires
-    returns
-    page-size-fault-requires
-    in-row-requires
-    is-refusal-requires-2
-    no-contexts-requires-2
-    returns-2
-    validate-headers-requires
-    returns-3)
+    tie.close (tie.spec read-from-requires (λ c κs. search needs) (λ c κs. search needs) returns (λ c κs. search needs)
+    (λ c κs. search needs) (λ c κs. search needs) (λ c κs. search needs) returns-2 validate-headers-requires returns-3)

@@ -1,24 +1,10 @@
-use Rattle.validation.proofs.VerdictLaws.{headers-platforms, headers-initializations, headers-directives}
-use Rattle.sheet.proofs.Readable.{sheet-says}
+use Rattle.rows.{proofs.Bools.not-both, proofs.Kit.{now, true, false, _≡_, sym, _∙_, needs}}
+use Rattle.igvm_defs.specs.Refusals.{isRefusal}
+use Rattle.sheet.{proofs.Readable.sheet-says, specs.Read.Readable, specs.Head.limits}
 use Rattle.rules.specs.Verdict.{platformsRefusal, initializationsRefusal}
 use Rattle.sheet_headers.specs.Headers.{sheetHeaders}
-use Rattle.sheet.specs.Read.{Readable}
-use Rattle.sheet.specs.Head.{limits}
-use Rattle.igvm_defs.specs.Refusals.{isRefusal}
-use Rattle.rows.proofs.Bools.{not-both}
-use denote.Ref.{now}
-use mathlib.Core.Bool.{true, false}
-use mathlib.Core.Path.{_≡_, sym, _∙_}
-use borrow.Author.Needs.{needs}
-use Rattle.validation.proofs.validate_headers.Statement.{statement}
+use Rattle.validation.proofs.{VerdictLaws.{headers-platforms, headers-initializations, headers-directives}, validate_headers.Statement.statement}
 use Rattle.validation.proofs.validate_headers.Tie as tie
-use Rattle.validation.proofs.validate_headers.Reads as reads
-use Rattle.validation.proofs.validate_headers.Lts as lts
-use Rattle.directive_pass.proofs.validate_directive_headers.Reads as validate-directive-headers-reads
-use Rattle.validation.proofs.no_contexts.Reads as no-contexts-reads
-use Rattle.igvm_defs.proofs.Refusal.is_refusal.Reads as is-refusal-reads
-use Rattle.passes.proofs.validate_initialization_headers.Reads as validate-initialization-headers-reads
-use Rattle.passes.proofs.validate_platform_headers.Reads as validate-platform-headers-reads
 
 readable : (c : tie.After-shared-slice-known) → Readable limits (now (c .before .args .s))
 readable c = sheet-says limits (now (c .before .args .s)) .0 (c .before .pre .0) .0
@@ -30,17 +16,8 @@ initializations-passed : (c : tie.Else2) → isRefusal (initializationsRefusal (
 initializations-passed c = rw (← c .before .before .before .validate-initialization-headers .ensures .told, ← c .before .is-refusal2 .ensures) (c .if2 .left)
 
 -- src/lib.rt:59:9
-validate-platform-headers-requires : tie.Need-validate-platform-headers-requires
-validate-platform-headers-requires c κs = (readable c, c .before .pre .1)
-
 -- src/lib.rt:61:8
-is-refusal-requires : tie.Need-is-refusal-requires
-is-refusal-requires c κs = search needs
-
 -- src/lib.rt:62:9
-no-contexts-requires : tie.Need-no-contexts-requires
-no-contexts-requires c κs = search needs
-
 -- src/lib.rt:62:9
 returns : tie.Need-returns
 returns c =
@@ -56,13 +33,7 @@ validate-initialization-headers-requires c κs =
     (readable (c .before .before .before .before), c .before .before .before .before .before .pre .1, holds)
 
 -- src/lib.rt:66:8
-is-refusal-requires-2 : tie.Need-is-refusal-requires-2
-is-refusal-requires-2 c κs = search needs
-
 -- src/lib.rt:67:9
-no-contexts-requires-2 : tie.Need-no-contexts-requires-2
-no-contexts-requires-2 c κs = search needs
-
 -- src/lib.rt:67:9
 returns-2 : tie.Need-returns-2
 returns-2 c =
@@ -89,16 +60,6 @@ returns-3 c =
 
 pub validate-headers-spec : {M : Type 1} → statement M
 validate-headers-spec =
-    tie.close
-    (tie.spec
-    validate-platform-headers-requires
-    is-refusal-requires
-    no-contexts-requires
-    returns
-    validate-initialization-headers-requires
-    is-refusal-requires-2
-    no-contexts-requires-2
-    returns-2
-    start-of-requires
-    validate-directive-headers-requires
-    returns-3)
+    tie.close (tie.spec (λ c κs. (readable c, c .before .pre .1)) (λ c κs. search needs) (λ c κs. search needs) returns
+    validate-initialization-headers-requires (λ c κs. search needs) (λ c κs. search needs) returns-2 start-of-requires
+    validate-directive-headers-requires returns-3)

@@ -1,5 +1,4 @@
-use mathlib.Core.Path.{refl}
-use Rattle.rows.specs.Below.{anyBelow}
+use Rattle.rows.{proofs.Kit.refl, specs.Below.anyBelow}
 use Rattle.extents.proofs.Reach.new.Statement.{statement}
 use Rattle.extents.proofs.Reach.new.Tie as tie
 

@@ -1,8 +1,6 @@
-use borrow.Author.Tests.{not-true, not-false}
-use Rattle.rows.proofs.Bools.{not-both}
+use Rattle.rows.{proofs.Kit.{not-true, not-false}, proofs.Bools.not-both}
 use Rattle.extents.specs.Extents.{apartFrom}
-use Rattle.extents.proofs.ExtentLaws.{wider-tables, wider-regions}
-use Rattle.extents.proofs.Reach.with.Statement.{statement}
+use Rattle.extents.proofs.{ExtentLaws.{wider-tables, wider-regions}, Reach.with.Statement.statement}
 use Rattle.extents.proofs.Reach.with.Tie as tie
 
 returns : tie.Need-returns

@@ -1,10 +1,7 @@
+use Rattle.rows.proofs.Kit.{needs}
 use Rattle.igvm_defs.specs.Refusals.{inRow}
-use borrow.Author.Needs.{needs}
 use Rattle.igvm_defs.proofs.Fault.in_row.Statement.{statement}
 use Rattle.igvm_defs.proofs.Fault.in_row.Tie as tie
-
-is-fault-requires : tie.Need-is-fault-requires
-is-fault-requires c κs = search needs
 
 returns : tie.Need-returns
 unfolding inRow
@@ -15,4 +12,4 @@ unfolding inRow
 returns-2 c = rw (← c .before .is-fault .ensures, c .if1 .left)
 
 pub in-row-spec : {M : Type 1} → statement M
-in-row-spec = tie.close (tie.spec is-fault-requires returns returns-2)
+in-row-spec = tie.close (tie.spec (λ c κs. search needs) returns returns-2)

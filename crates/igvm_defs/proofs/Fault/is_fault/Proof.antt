@@ -1,5 +1,5 @@
+use Rattle.rows.proofs.Kit.{refl}
 use Rattle.igvm_defs.specs.Refusals.{isFault}
-use mathlib.Core.Path.{refl}
 use Rattle.igvm_defs.proofs.Fault.is_fault.Statement.{statement}
 use Rattle.igvm_defs.proofs.Fault.is_fault.Tie as tie
 

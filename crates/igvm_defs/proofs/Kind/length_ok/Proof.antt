@@ -1,10 +1,7 @@
+use Rattle.rows.proofs.Kit.{needs}
 use Rattle.igvm_defs.specs.Kinds.{lengthOk}
-use borrow.Author.Needs.{needs}
 use Rattle.igvm_defs.proofs.Kind.length_ok.Statement.{statement}
 use Rattle.igvm_defs.proofs.Kind.length_ok.Tie as tie
-
-cast-least : tie.Need-cast-least
-cast-least c = search needs
 
 returns : tie.Need-returns
 unfolding lengthOk
@@ -15,4 +12,4 @@ unfolding lengthOk
 returns-2 c = rw (c .if1 .left)
 
 pub length-ok-spec : {M : Type 1} → statement M
-length-ok-spec = tie.close (tie.spec cast-least returns returns-2)
+length-ok-spec = tie.close (tie.spec (λ c. search needs) returns returns-2)

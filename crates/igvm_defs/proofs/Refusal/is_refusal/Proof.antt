@@ -1,5 +1,5 @@
+use Rattle.rows.proofs.Kit.{refl}
 use Rattle.igvm_defs.specs.Refusals.{isRefusal}
-use mathlib.Core.Path.{refl}
 use Rattle.igvm_defs.proofs.Refusal.is_refusal.Statement.{statement}
 use Rattle.igvm_defs.proofs.Refusal.is_refusal.Tie as tie
 

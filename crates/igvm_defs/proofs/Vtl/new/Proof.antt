@@ -1,4 +1,4 @@
-use borrow.Author.Tests.{ne-eqb}
+use Rattle.rows.proofs.Kit.{ne-eqb}
 use Rattle.igvm_defs.specs.Vtls.{vtlOf}
 use Rattle.igvm_defs.proofs.Vtl.new.Statement.{statement}
 use Rattle.igvm_defs.proofs.Vtl.new.Tie as tie

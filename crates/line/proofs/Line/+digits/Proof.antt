@@ -1,20 +1,12 @@
 -- `digits` meets its contract: the measure is k. Assumes nothing.
-use mathlib.Core.Path.{sym}
-use mathlib.Core.List.{append-assoc, append-nil}
-use native.Mathlib.Omega.{arith}
-use lib.ListN.{length-append}
-use borrow.Author.Needs.{needs}
+use borrow.{Fn.Kinds.In, Fn.PlainCycle.{Measures, is, falls, and}}
+use Rattle.rows.proofs.Kit.{sym, append-assoc, append-nil, arith, length-append, needs, ℕ, _-_, _/_, _<_}
 use Rattle.line.specs.Line.{digitsIn}
-use Rattle.line.proofs.DigitLaws.{digits-short, digits-one, digits-more}
-use Prim.Native.Nat.{ℕ, _-_, _/_, _<_}
-use borrow.Fn.Kinds.{In}
-use borrow.Fn.PlainCycle.{Measures, is, falls, and}
+use Rattle.line.proofs.{DigitLaws.{digits-short, digits-one, digits-more}, Line.+digits.statement, Line.+digits.Tie.close}
 use Rattle.line.proofs.Line.digits.Reads as digits
 use Rattle.line.proofs.Line.digits.Kinds as digits-kinds
 use Rattle.line.proofs.Line.+digits.Lts-digits as digits-lts
 use Rattle.line.proofs.Line.byte.Reads as byte-reads
-use Rattle.line.proofs.Line.+digits.{statement}
-use Rattle.line.proofs.Line.+digits.Tie.{close}
 
 abbrev μ-digits : Measures 0 digits-kinds.ps ℕ
 μ-digits κs a = a .1 .0

@@ -1,13 +1,6 @@
 -- `text` meets its contract: after i turns the line has the first i bytes more. Assumes nothing.
-use mathlib.Core.Path.{_≡_, sym}
-use mathlib.Core.List.{_++_, append-assoc, append-nil}
-use Prim.Native.Nat.{_+_, _-_, _≤_, _<_}
-use native.Mathlib.Numerals.{add-one}
-use native.Mathlib.Omega.{arith}
-use lib.ListN.{length, take}
-use lib.Seq.{take-suc, take-length}
-use denote.Ref.{now}
-use borrow.Author.Needs.{needs}
+use lib.Seq.{take-length}
+use Rattle.rows.proofs.Kit.{_≡_, sym, _++_, append-assoc, append-nil, _+_, _-_, _≤_, _<_, add-one, arith, length, take, take-suc, now, needs}
 use Rattle.line.specs.Text.{textOf}
 use Rattle.line.proofs.Line.text.Statement.{statement}
 use Rattle.line.proofs.Line.text.Tie as tie
@@ -17,21 +10,6 @@ Inv-loop b next₀ i₀ next i = (i ≤ length b) × (next .len ≡ next₀ .len
 
 abbrev μ-loop : tie.MeasureT-loop
 μ-loop b next₀ i₀ next i = length b - i
-
-loop-holds : tie.Need-loop-holds Inv-loop μ-loop
-loop-holds c = (omega arith, omega arith, sym (append-nil _))
-
-shared-slice-read-byte : tie.Need-shared-slice-read-byte Inv-loop μ-loop
-shared-slice-read-byte c = search needs
-
-byte-requires : tie.Need-byte-requires Inv-loop μ-loop
-byte-requires c κs = search needs
-
-add-i : tie.Need-add-i Inv-loop μ-loop
-add-i c = search needs
-
-loop-less : tie.Need-loop-less Inv-loop μ-loop
-loop-less c = search needs
 
 loop-again : tie.Need-loop-again Inv-loop μ-loop
 loop-again c =
@@ -49,14 +27,5 @@ returns c =
 
 pub text-spec : {M : Type 1} → statement M
 text-spec =
-    tie.close
-    (tie.spec
-    Inv-loop
-    μ-loop
-    loop-holds
-    shared-slice-read-byte
-    byte-requires
-    add-i
-    loop-less
-    loop-again
-    returns)
+    tie.close (tie.spec Inv-loop μ-loop (λ c. (omega arith, omega arith, sym (append-nil _))) (λ c. search needs) (λ c κs. search needs)
+    (λ c. search needs) (λ c. search needs) loop-again returns)

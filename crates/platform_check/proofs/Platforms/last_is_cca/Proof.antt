@@ -1,14 +1,5 @@
-use mathlib.Core.Path.{_≡_, refl}
-use mathlib.Core.Option.{Option, none, some}
-use Prim.Native.Nat.{ℕ, _-_, _≤_}
-use native.Mathlib.Omega.{arith}
-use borrow.Author.Needs.{needs}
-use lib.Dec.{eqb}
-use lib.ListN.{getD}
-use Rattle.rows.specs.Below.{lastBelow}
-use Rattle.rows.proofs.BelowLaws.{last-more}
-use Rattle.platform_check.specs.declared.Platforms.{Platforms}
-use Rattle.platform_check.specs.Record.{typeIsCca, lastTypeIsCca}
+use Rattle.rows.{proofs.Kit.{_≡_, refl, Option, none, some, ℕ, _-_, _≤_, arith, needs, eqb, getD}, specs.Below.lastBelow, proofs.BelowLaws.last-more}
+use Rattle.platform_check.specs.{declared.Platforms.Platforms, Record.{typeIsCca, lastTypeIsCca}}
 use Rattle.platform_check.proofs.Platforms.last_is_cca.Statement.{statement}
 use Rattle.platform_check.proofs.Platforms.last_is_cca.Tie as tie
 
@@ -35,24 +26,6 @@ loop-holds : tie.Need-loop-holds Inv-loop μ-loop
 unfolding lastBelow
 loop-holds c = (search needs, refl)
 
-mul-type-after : tie.Need-mul-type-after Inv-loop μ-loop
-mul-type-after c = search needs
-
-element-copy-out-type-after : tie.Need-element-copy-out-type-after Inv-loop μ-loop
-element-copy-out-type-after c = search needs
-
-element-copy-out-type-after-2 : tie.Need-element-copy-out-type-after-2 Inv-loop μ-loop
-element-copy-out-type-after-2 c = search needs
-
-type-after-requires : tie.Need-type-after-requires Inv-loop μ-loop
-type-after-requires c κs = search needs
-
-add-i : tie.Need-add-i Inv-loop μ-loop
-add-i c = search needs
-
-loop-less : tie.Need-loop-less Inv-loop μ-loop
-loop-less c = search needs
-
 loop-again : tie.Need-loop-again Inv-loop μ-loop
 loop-again c = (search needs, rw (last-more (typeAt (c .before .before .before .before .before .args .t1))) (cc))
 
@@ -64,16 +37,5 @@ returns c =
 
 pub last-is-cca-spec : {M : Type 1} → statement M
 last-is-cca-spec =
-    tie.close
-    (tie.spec
-    Inv-loop
-    μ-loop
-    loop-holds
-    mul-type-after
-    element-copy-out-type-after
-    element-copy-out-type-after-2
-    type-after-requires
-    add-i
-    loop-less
-    loop-again
-    returns)
+    tie.close (tie.spec Inv-loop μ-loop loop-holds (λ c. search needs) (λ c. search needs) (λ c. search needs) (λ c κs. search needs)
+    (λ c. search needs) (λ c. search needs) loop-again returns)

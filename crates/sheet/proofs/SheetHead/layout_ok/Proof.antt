@@ -1,4 +1,4 @@
-use mathlib.Core.Path.{refl}
+use Rattle.rows.proofs.Kit.{refl}
 use Rattle.sheet.specs.Head.{layoutOk}
 use Rattle.sheet.proofs.SheetHead.layout_ok.Statement.{statement}
 use Rattle.sheet.proofs.SheetHead.layout_ok.Tie as tie

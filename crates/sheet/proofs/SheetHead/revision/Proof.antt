@@ -1,4 +1,4 @@
-use borrow.Author.Tests.{eq-eqb, ne-eqb}
+use Rattle.rows.proofs.Kit.{eq-eqb, ne-eqb}
 use Rattle.sheet.specs.Head.{revisionOf}
 use Rattle.sheet.proofs.SheetHead.revision.Statement.{statement}
 use Rattle.sheet.proofs.SheetHead.revision.Tie as tie

@@ -1,4 +1,4 @@
-use mathlib.Core.Path.{refl}
+use Rattle.rows.proofs.Kit.{refl}
 use Rattle.sheet.specs.Head.{withinLimits, limits}
 use Rattle.sheet.proofs.SheetHead.within_limits.Statement.{statement}
 use Rattle.sheet.proofs.SheetHead.within_limits.Tie as tie
