@@ -1,1 +1,3 @@
 pub mod Admission
+pub mod Line
+pub mod Text
