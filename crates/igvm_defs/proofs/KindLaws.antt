@@ -1,6 +1,6 @@
 -- Laws of the table of kinds: which kinds a list has, and that a body's fields lie within its least length.
 -- Assumes nothing.
-use Rattle.rows.{proofs.Kit.{_≡_, refl, Bool, true, false, cond, not, _&&_, _||_, false≢true, List, [], _∷_, ℕ, suc, _<_, _≤_, arith, leb, eqb, length, take, leb-true, eqb-true, eq-eqb}, proofs.Bools.and-parts}
+use Rattle.rows.{proofs.Kit.{_≡_, refl, Bool, true, false, cond, not, _&&_, _||_, false≢true, List, [], _∷_, ℕ, suc, _<_, _≤_, arith, leb, eqb, length, take, leb-true, eq-eqb}, proofs.Bools.and-parts}
 use Rattle.igvm_defs.specs.Kinds.{Span, lookup, spans, kindOf, fields, platformList, initializationList, directiveList}
 
 -- ---- the kinds of a list
@@ -44,15 +44,6 @@ unfolding kindOf spans
 directive-kind k e = let (l, h) = within 2 32 53 k spans refl e in (l, omega arith)
 
 -- ---- fields
-
--- never more than the least length of a body
-pub fields-least : (kind : ℕ) → fields kind ≤ kindOf kind .least
-unfolding fields kindOf spans
-fields-least kind = go (eqb kind 17) refl
-  where
-    go : (t : Bool) → eqb kind 17 ≡ t → fields kind ≤ kindOf kind .least
-    go true e = rw (eqb-true kind 17 e) (omega arith)
-    go false e = rw e (omega arith)
 
 -- a decoder of a list's rows sees the kind, the body's length and its fields
 abbrev pub Local : {H : Type 0} → ℕ → (ℕ → List ℕ → H) → Type 0

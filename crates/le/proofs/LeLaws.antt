@@ -1,7 +1,6 @@
 -- Laws of little-endian numbers: reads within the bytes that two lists share, and the bound of a number.
 -- Assumes nothing.
-use native.Mathlib.Nat.{mul-le-mul-left}
-use Rattle.rows.{proofs.Kit.{_≡_, _∙_, ap, sym, true, List, ℕ, zero, suc, _+_, _*_, _^_, _<_, _≤_, pow-suc, arith, leb, ltb, take, getD-take, leb-true, ltb-true}, specs.Below.sumBelow, proofs.BelowLaws.sum-cong}
+use Rattle.rows.{proofs.Kit.{_≡_, _∙_, ap, sym, true, List, ℕ, _+_, _*_, _^_, _<_, _≤_, arith, leb, ltb, take, getD-take, leb-true, ltb-true}, proofs.BelowLaws.sum-cong}
 use Rattle.le.specs.Le.{byteAt, leAt}
 
 -- ---- two lists that agree on their first m bytes
@@ -20,12 +19,3 @@ module _ (m : ℕ) (x y : List ℕ) (h : take m x ≡ take m y) where
 
   pub byte-read : (o : ℕ) → ltb o m ≡ true → byteAt x o ≡ byteAt y o
   byte-read o l = byte-same o (ltb-true o m l)
-
--- ---- the bound
-pub le-bound : (w : ℕ) (b : List ℕ) (at : ℕ) → ((k : ℕ) → k < w → byteAt b (at + k) < 256) → leAt w b at < 256 ^ w
-unfolding leAt sumBelow
-le-bound zero b at h = omega arith
-le-bound (suc w) b at h =
-    let r : leAt w b at < 256 ^ w = le-bound w b at (λ k l. h k (omega arith)) in
-    let t : 256 ^ w * byteAt b (at + w) ≤ 256 ^ w * 255 = mul-le-mul-left (256 ^ w) (let q = h w (omega arith) in omega arith) in
-    rw (pow-suc 256 w) (omega arith)

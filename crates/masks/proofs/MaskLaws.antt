@@ -1,9 +1,9 @@
 -- Laws of masks.
 -- Assumes nothing.
 use Prim.Native.Nat.{min, max}
-use native.{Mathlib.Nat.{two-pow-succ, add-sub-cancel, zero-mul, one-mul, div-div-eq-div-mul, zero-div, div-self, eq-zero-or-pos}, Mathlib.Numerals.one-add}
+use native.{Mathlib.Nat.{two-pow-succ, add-sub-cancel, zero-mul, one-mul, div-div-eq-div-mul, div-self, eq-zero-or-pos}, Mathlib.Numerals.one-add}
 use lib.{Arith.bin-ind, Bits.{and-comm, and-self, and-zero-r, or-step, and-le-r, or-add-and, and-high}, Pow.{pow-pos, shl-exact}, Seq.take-add}
-use Rattle.rows.{proofs.Kit.{_≡_, refl, sym, ap, _∙_, Bool, true, false, cond, not, _&&_, _||_, false≢true, List, [], _∷_, _++_, _≢_, _↔_, _⊎_, inl, inr, Option, none, some, ℕ, zero, suc, _+_, _-_, _*_, _/_, _%_, _^_, _≤_, _<_, pow-succ', decLt, add-one, arith, bitAnd, bitOr, and-step, and-shr, eqb, length, take, getD, take-suc, eqb-true, eqb-false, eq-eqb, ne-eqb, not-true}, specs.Below.{orElse, firstBelow}, proofs.Bools.{not-both, eqb-same, cond-map}, proofs.BelowLaws.first-none}
+use Rattle.rows.{proofs.Kit.{_≡_, refl, sym, ap, _∙_, Bool, true, false, cond, not, _&&_, _||_, false≢true, List, [], _∷_, _++_, _≢_, _↔_, _⊎_, inl, inr, Option, none, some, ℕ, zero, suc, _+_, _-_, _*_, _/_, _%_, _^_, _≤_, _<_, pow-succ', decLt, add-one, arith, bitAnd, bitOr, and-step, eqb, length, take, getD, take-suc, eqb-true, eqb-false, ne-eqb, not-true}, specs.Below.{orLater, firstBelow}, proofs.Bools.{not-both, eqb-same, cond-map}, proofs.BelowLaws.first-none}
 use Rattle.masks.specs.Masks.{shares, matches, isOneBit, hasBit, bitsBelow, firstMask}
 use lib.Count as Count
 
@@ -21,9 +21,6 @@ shares-sym m n = rw (and-comm m n)
 pub shares-zero-left : (m : ℕ) → shares 0 m ≡ false
 unfolding shares
 shares-zero-left m = refl
-
-pub shares-zero-right : (m : ℕ) → shares m 0 ≡ false
-shares-zero-right m = shares-sym m 0 ∙ shares-zero-left m
 
 or-half : (a b : ℕ) → bitOr a b / 2 ≡ bitOr (a / 2) (b / 2)
 or-half a b = let e = or-step a b in omega arith
@@ -122,30 +119,6 @@ has-digit m k h = eqb-true (m / 2 ^ k % 2) 1 (sym (has-bit m k) ∙ h)
 half-bit : (m k : ℕ) → hasBit (m / 2) k ≡ hasBit m (suc k)
 half-bit m k = rw (has-bit (m / 2) k, has-bit m (suc k), pow-succ', div-div-eq-div-mul)
 
--- masks that have bit k
-pub bit-shares : (m n k : ℕ) → hasBit m k ≡ true → hasBit n k ≡ true → shares m n ≡ true
-bit-shares m n k h g =
-    shares-says m n .1 (λ e.
-    let high : bitAnd (m / 2 ^ k) (n / 2 ^ k) ≡ 0 = sym (and-shr m n k) ∙ rw e (zero-div (2 ^ k)) in
-    omega (arith, and-step (m / 2 ^ k) (n / 2 ^ k), has-digit m k h, has-digit n k g))
-
-shares-bit : (w m n : ℕ) → m < 2 ^ w → shares m n ≡ true → (k : ℕ) × (k < w) × (hasBit m k ≡ true) × (hasBit n k ≡ true)
-shares-bit zero m n l h =
-    let e : m ≡ 0 = omega arith in
-    not-both (rw e (shares-zero-left n)) h
-shares-bit (suc w) m n l h = go (shares-bit w (m / 2) (n / 2) (omega arith)) (eq-zero-or-pos (min (m % 2) (n % 2)))
-  where
-    go : (shares (m / 2) (n / 2) ≡ true → (k : ℕ) × (k < w) × (hasBit (m / 2) k ≡ true) × (hasBit (n / 2) k ≡ true))
-        → (min (m % 2) (n % 2) ≡ 0) ⊎ (0 < min (m % 2) (n % 2)) → (k : ℕ) × (k < suc w) × (hasBit m k ≡ true) × (hasBit n k ≡ true)
-    go rest (inl z) =
-        let (k, b, f, g) = rest (shares-says (m / 2) (n / 2) .1 (λ e. shares-says m n .0 h (omega (arith, and-step m n)))) in
-        (suc k, omega arith, sym (half-bit m k) ∙ f, sym (half-bit n k) ∙ g)
-    go rest (inr p) = (0, omega arith, rw has-bit (eq-eqb (m / 1 % 2) 1 (omega arith)), rw has-bit (eq-eqb (n / 1 % 2) 1 (omega arith)))
-
--- a mask of w bits shares a bit with another exactly where both have it
-pub shares-bits : (w m n : ℕ) → m < 2 ^ w → (shares m n ≡ true) ↔ ((k : ℕ) × (k < w) × (hasBit m k ≡ true) × (hasBit n k ≡ true))
-shares-bits w m n l = (shares-bit w m n l, λ (k, b, f, g). bit-shares m n k f g)
-
 pub bits-more : (n m : ℕ) → bitsBelow (n + 1) m ≡ bitsBelow n m ++ cond (hasBit m n) (2 ^ n ∷ []) []
 unfolding bitsBelow
 bits-more n m = rw add-one
@@ -221,7 +194,7 @@ abbrev pub bitAt : Option ℕ → Option ℕ
 bitAt none = none
 bitAt (some k) = some (2 ^ k)
 
-bitAt-or : (a b : Option ℕ) → bitAt (orElse a b) ≡ orElse (bitAt a) (bitAt b)
+bitAt-or : (a b : Option ℕ) → bitAt (orLater a b) ≡ orLater (bitAt a) (bitAt b)
 bitAt-or none b = refl
 bitAt-or (some k) b = refl
 
@@ -239,11 +212,11 @@ where-fails true c h = h refl
 where-fails false c h = refl
 
 module _ (p : ℕ → Bool) where
-  pub first-mask-append : (xs ys : List ℕ) → firstMask p (xs ++ ys) ≡ orElse (firstMask p xs) (firstMask p ys)
+  pub first-mask-append : (xs ys : List ℕ) → firstMask p (xs ++ ys) ≡ orLater (firstMask p xs) (firstMask p ys)
   unfolding firstMask
   first-mask-append [] ys = refl
   first-mask-append (x ∷ xs) ys =
-      rw (first-mask-append xs ys) (sym (cond-map (λ (o : Option ℕ). orElse o (firstMask p ys)) (p x) (some x) (firstMask p xs)))
+      rw (first-mask-append xs ys) (sym (cond-map (λ (o : Option ℕ). orLater o (firstMask p ys)) (p x) (some x) (firstMask p xs)))
 
   pub first-mask-same : (q : ℕ → Bool) → ((m : ℕ) → p m ≡ q m) → (ms : List ℕ) → firstMask p ms ≡ firstMask q ms
   unfolding firstMask
@@ -274,7 +247,7 @@ module _ (p : ℕ → Bool) where
 
   -- one mask more
   pub first-mask-more : (ms : List ℕ) (j : ℕ) → j < length ms
-      → firstMask p (take (j + 1) ms) ≡ orElse (firstMask p (take j ms)) (cond (p (getD ms j 0)) (some (getD ms j 0)) none)
+      → firstMask p (take (j + 1) ms) ≡ orLater (firstMask p (take j ms)) (cond (p (getD ms j 0)) (some (getD ms j 0)) none)
   unfolding firstMask
   first-mask-more ms j l = rw (add-one, take-suc ms j 0, first-mask-append)
 

@@ -11,10 +11,6 @@ pub is-false : (b : Bool) → (b ≡ true → ⊥) → b ≡ false
 is-false true f = absurd (f refl)
 is-false false f = refl
 
-pub is-true : (b : Bool) → (b ≡ false → ⊥) → b ≡ true
-is-true true f = refl
-is-true false f = absurd (f refl)
-
 -- two tests that pass together are equal
 pub same-test : (b c : Bool) → (b ≡ true → c ≡ true) → (c ≡ true → b ≡ true) → b ≡ c
 same-test true c f g = sym (f refl)

@@ -1,7 +1,7 @@
 -- What tests and sums say of two lists that pair off, or of a list whose rows all stand in another.
 use native.Mathlib.Nat.{lt-of-not-le}
-use Rattle.rows.specs.{Below.{lastBelow, sumBelow, nthBelow}, Rows.{Rows, any, rowAt, last, before, countOf, nth, Apart, Once}, Paired.{Paired, Into, Free}}
-use Rattle.rows.proofs.{Kit.{_≡_, refl, sym, ap, _∙_, Bool, true, false, cond, false≢true, _⊎_, inl, inr, Option, none, some, ℕ, _≤_, _<_, eq-or-lt-of-le, le-antisymm, le-of-eq, decLt, arith}, Bools.{not-both, is-false, same-test}, BelowLaws.{any-below, some-below, LastAt, last-says, says-last, sum-le, count-none, count-all, nth-number, nth-says}}
+use Rattle.rows.specs.{Below.{lastBelow, sumBelow, countBelow, nthBelow}, Rows.{Rows, any, rowAt, last, before, countOf, nth, Apart, Once}, Paired.{Paired, Into, Free}}
+use Rattle.rows.proofs.{Kit.{_≡_, refl, sym, ap, _∙_, Bool, true, false, cond, false≢true, inl, inr, Option, none, some, ℕ, _≤_, _<_, eq-or-lt-of-le, le-antisymm, le-of-eq, decLt, arith}, Bools.{not-both, is-false}, BelowLaws.{any-below, some-below, LastAt, last-says, says-last, sum-le, count-none, count-all, nth-number, nth-says}}
 
 -- ---- a row at an index
 
@@ -17,14 +17,6 @@ row-at xs (some i) x e = (i, refl, cc)
 -- ---- one way: each row of xs is a row of ys
 
 module _ {H : Type 0} {Tied : H → H → Type 0} {xs ys : Rows H} (I : Into Tied xs ys) where
-  pub any-there : (p : H → Bool) → any p xs ≡ true → any p ys ≡ true
-  any-there p h =
-      let (i, l, g) = some-below (xs .count) (λ j. p (xs .row j)) h in
-      any-below (ys .count) (λ j. p (ys .row j)) (I .to i) (I .to-below i l) (rw (I .same i l) g)
-
-  pub any-false : (p : H → Bool) → any p ys ≡ false → any p xs ≡ false
-  any-false p h = is-false (any p xs) (λ e. not-both h (any-there p e))
-
   -- a row before row i, where what passes is tied to row i
   pub earlier-there : (p : H → Bool) (i : ℕ) → i < xs .count → ((y : H) → p y ≡ true → Tied y (xs .row i))
       → any p (before i xs) ≡ true → any p (before (I .to i) ys) ≡ true
@@ -38,19 +30,13 @@ module _ {H : Type 0} {Tied : H → H → Type 0} {xs ys : Rows H} (I : Into Tie
 
   -- tied rows of xs that stand in order in ys stand so in xs
   pub keeps-back : (i j : ℕ) → i < xs .count → j < xs .count → Tied (xs .row j) (xs .row i) → I .to i < I .to j → i < j
-  keeps-back i j l k t m = lt-of-not-le (λ (g : j ≤ i). go (eq-or-lt-of-le g))
-    where
-      go : (j ≡ i) ⊎ (j < i) → ⊥
-      go (inl e) = let q = ap (I .to) e in omega arith
-      go (inr h) = let q = I .keeps j i h l t in omega arith
+  keeps-back i j l k t m = lt-of-not-le (λ (g : j ≤ i).
+      elim (eq-or-lt-of-le g) [ inl e ↦ let q = ap (I .to) e in omega arith | inr h ↦ let q = I .keeps j i h l t in omega arith ])
 
   pub sum-there : (w : H → ℕ) → sumBelow (xs .count) (λ i. w (xs .row i)) ≤ sumBelow (ys .count) (λ i. w (ys .row i))
   sum-there w =
       sum-le (xs .count) (ys .count) (λ i. w (xs .row i)) (λ i. w (ys .row i)) (I .to) (I .to-below) (I .one-to-one)
       (λ i l. le-of-eq (ap w (sym (I .same i l))))
-
-  pub count-there : (p : H → Bool) → countOf p xs ≤ countOf p ys
-  count-there p = sum-there (λ x. cond (p x) 1 0)
 
   -- a row that passes is found by its number, in either list
   pub nth-there : (p : H → Bool) (i : ℕ) → i < xs .count → p (xs .row i) ≡ true
@@ -124,9 +110,6 @@ module _ {H : Type 0} {Tied : H → H → Type 0} {xs ys : Rows H} (P : Paired T
         keeps = λ i j l k t. absurd t;
       }
 
-  pub any-same : (p : H → Bool) → any p xs ≡ any p ys
-  any-same p = same-test (any p xs) (any p ys) (any-there forth p) (any-there back p)
-
   pub sum-same : (w : H → ℕ) → sumBelow (xs .count) (λ i. w (xs .row i)) ≡ sumBelow (ys .count) (λ i. w (ys .row i))
   sum-same w = le-antisymm (sum-there forth w) (sum-there back w)
 
@@ -136,13 +119,8 @@ module _ {H : Type 0} {Tied : H → H → Type 0} {xs ys : Rows H} (P : Paired T
 
   pub length-same : xs .count ≡ ys .count
   length-same =
-      let e = count-same (λ _. true) in
-      let a = count-all (xs .count) (λ _. true) (λ _ _. refl) in
-      let b = count-all (ys .count) (λ _. true) (λ _ _. refl) in
-      omega arith
-
-  pub apart-there : (clash : H → H → Bool) → Apart clash xs → Apart clash ys
-  apart-there = apart-back back
+      let all : (n : ℕ) → countBelow n (λ _. true) ≡ n = λ n. count-all n (λ _. true) (λ _ _. refl) in
+      omega (arith, count-same (λ _. true), all (xs .count), all (ys .count))
 
   pub once-there : (p : H → Bool) → Once p xs → Once p ys
   once-there = once-back back
@@ -176,13 +154,6 @@ module _ {H : Type 0} {Tied : H → H → Type 0} (tied-sym : (x y : H) → Tied
       }
 
   module _ {xs ys : Rows H} (P : Paired Tied xs ys) where
-    -- a row before row i, where what passes is tied to row i
-    pub earlier-same : (p : H → Bool) (i : ℕ) → i < xs .count → ((y : H) → p y ≡ true → Tied y (xs .row i))
-        → any p (before i xs) ≡ any p (before (P .to i) ys)
-    earlier-same p i l t =
-        same-test (any p (before i xs)) (any p (before (P .to i) ys)) (earlier-there (forth P) p i l t)
-        (λ h. rw (P .from-to i l) at (earlier-there (forth (flip P)) p (P .to i) (P .to-below i l) (λ y g. rw (P .same i l) (t y g)) h))
-
     -- the last row that passes, where rows that pass are tied
     pub last-there : (p : H → Bool) → ((x y : H) → p x ≡ true → p y ≡ true → Tied x y) → (x : H) → last p xs ≡ some x → last p ys ≡ some x
     last-there p t x e =
@@ -208,11 +179,11 @@ module _ {H : Type 0} {Tied : H → H → Type 0} (tied-sym : (x y : H) → Tied
 module _ {H : Type 0} (clash : H → H → Bool) where
   pub earlier-apart : ((x y : H) → clash x y ≡ true → clash y x ≡ true) → (xs : Rows H)
       → ((i : ℕ) → i < xs .count → any (clash (xs .row i)) (before i xs) ≡ false) → Apart clash xs
-  earlier-apart clash-sym xs h i j l k n = is-false (clash (xs .row i) (xs .row j)) (λ c. go c (decLt i j))
-    where
-      go : clash (xs .row i) (xs .row j) ≡ true → Dec (i < j) → ⊥
-      go c (yes m) = not-both (h j k) (any-below j (λ a. clash (xs .row j) (xs .row a)) i m (clash-sym _ _ c))
-      go c (no m) = not-both (h i l) (any-below i (λ a. clash (xs .row i) (xs .row a)) j (omega arith) c)
+  earlier-apart clash-sym xs h i j l k n = is-false (clash (xs .row i) (xs .row j)) (λ c.
+      elim (decLt i j) [
+        | yes m ↦ not-both (h j k) (any-below j (λ a. clash (xs .row j) (xs .row a)) i m (clash-sym _ _ c))
+        | no m ↦ not-both (h i l) (any-below i (λ a. clash (xs .row i) (xs .row a)) j (omega arith) c)
+      ])
 
   pub apart-earlier : (xs : Rows H) → Apart clash xs → (i : ℕ) → i < xs .count → any (clash (xs .row i)) (before i xs) ≡ false
   apart-earlier xs h i l = is-false (any (clash (xs .row i)) (before i xs)) (λ e.

@@ -10,14 +10,14 @@ anyBelow zero p = false
 anyBelow (suc n) p = anyBelow n p || p n
 
 -- the index that is there, else the other
-abbrev pub orElse : Option ℕ → Option ℕ → Option ℕ
-orElse none o = o
-orElse (some i) o = some i
+abbrev pub orLater : Option ℕ → Option ℕ → Option ℕ
+orLater none o = o
+orLater (some i) o = some i
 
 -- the first index below n that passes
 unfoldable pub firstBelow : ℕ → (ℕ → Bool) → Option ℕ
 firstBelow zero p = none
-firstBelow (suc n) p = orElse (firstBelow n p) (cond (p n) (some n) none)
+firstBelow (suc n) p = orLater (firstBelow n p) (cond (p n) (some n) none)
 
 -- the last index below n that passes
 unfoldable pub lastBelow : ℕ → (ℕ → Bool) → Option ℕ

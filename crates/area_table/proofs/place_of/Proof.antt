@@ -9,10 +9,6 @@ Inv-loop links areas area p₀ rest₀ left₀ p rest left = (placeOf links area
 abbrev μ-loop : tie.MeasureT-loop
 μ-loop links areas area p₀ rest₀ left₀ p rest left = left
 
-loop-holds : tie.Need-loop-holds Inv-loop μ-loop
-unfolding placeOf
-loop-holds c = (rw (c .root-of .ensures .0), search needs)
-
 returns : tie.Need-returns Inv-loop μ-loop
 returns c =
     let l = c .before .before .before .loop in
@@ -37,7 +33,8 @@ returns-3 c =
     (sym (rw z at (l .inv .0) ∙ find-zero _ _ _ (l .rest) (l .p)), search needs)
 
 pub place-of-spec : {M : Type 1} → statement M
+unfolding placeOf
 place-of-spec =
-    tie.close (tie.spec Inv-loop μ-loop (λ c κs. search needs) loop-holds (λ c. search needs) (λ c. search needs) returns
-    (λ c. search needs) (λ c. search needs) (λ c. search needs) returns-2 (λ c. search needs) (λ c. search needs) (λ c. search needs)
-    (λ c. search needs) (λ c. search needs) (λ c. search needs) loop-again returns-3)
+    tie.close (tie.spec Inv-loop μ-loop (λ c κs. search needs) (λ c. (rw (c .root-of .ensures .0), search needs)) (λ c. search needs)
+    (λ c. search needs) returns (λ c. search needs) (λ c. search needs) (λ c. search needs) returns-2 (λ c. search needs)
+    (λ c. search needs) (λ c. search needs) (λ c. search needs) (λ c. search needs) (λ c. search needs) loop-again returns-3)

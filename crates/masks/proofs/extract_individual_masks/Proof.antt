@@ -9,10 +9,6 @@ Inv-loop m out₀ k₀ out k = (k ≤ 32) × (take (out .count) (out .masks) ≡
 abbrev μ-loop : tie.MeasureT-loop
 μ-loop m out₀ k₀ out k = 32 - k
 
-loop-holds : tie.Need-loop-holds Inv-loop μ-loop
-unfolding bitsBelow
-loop-holds c = (omega arith, refl, omega arith)
-
 loop-again : tie.Need-loop-again Inv-loop μ-loop
 unfolding hasBit
 loop-again c =
@@ -25,6 +21,7 @@ returns c =
     (rw (← e) (c .before .loop .inv .1), omega arith)
 
 pub extract-individual-masks-spec : {M : Type 1} → statement M
+unfolding bitsBelow
 extract-individual-masks-spec =
-    tie.close (tie.spec Inv-loop μ-loop loop-holds (λ c. search needs) (λ c κs. search needs) (λ c κs. search needs) (λ c. search needs)
-    (λ c. search needs) loop-again returns)
+    tie.close (tie.spec Inv-loop μ-loop (λ c. (omega arith, refl, omega arith)) (λ c. search needs) (λ c κs. search needs)
+    (λ c κs. search needs) (λ c. search needs) (λ c. search needs) loop-again returns)

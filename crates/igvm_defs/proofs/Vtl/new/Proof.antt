@@ -3,17 +3,10 @@ use Rattle.igvm_defs.specs.Vtls.{vtlOf}
 use Rattle.igvm_defs.proofs.Vtl.new.Statement.{statement}
 use Rattle.igvm_defs.proofs.Vtl.new.Tie as tie
 
-returns : tie.Need-returns
-unfolding vtlOf
-returns c = rw (c .match .keys1)
-
-returns-2 : tie.Need-returns-2
-unfolding vtlOf
-returns-2 c = rw (c .match .keys2)
-
 returns-3 : tie.Need-returns-3
 unfolding vtlOf
 returns-3 c = simp (ne-eqb _ _ (c .match .rest .0 .1), ne-eqb _ _ (c .match .rest .1))
 
 pub new-spec : {M : Type 1} → statement M
-new-spec = tie.close (tie.spec returns returns-2 returns-3)
+unfolding vtlOf
+new-spec = tie.close (tie.spec (λ c. rw (c .match .keys1)) (λ c. rw (c .match .keys2)) returns-3)
