@@ -1,7 +1,7 @@
 -- Laws of the table of areas: where an area's place is, what a new node changes, and the empty table.
 -- Assumes nothing.
 use lib.ListN.{length-replicate}
-use Rattle.rows.{proofs.Kit.{ℕ, zero, suc, _+_, _*_, _-_, _/_, _%_, _≤_, _<_, decLt, ℕ-discrete, arith, Bool, true, false, cond, List, _≢_, _⊎_, inl, inr, _≡_, refl, sym, ap, _∙_, eqb, length, getD, set, replicate, length-set, getD-set-same, getD-set-other, lt-ltb, le-ltb, eq-eqb, ne-eqb, eqb-true}, proofs.Bools.{not-both, or-left, or-right, or-cases, or-both-false}}
+use Rattle.rows.{proofs.Kit.{ℕ, zero, suc, _+_, _*_, _-_, _/_, _%_, _≤_, _<_, decLt, ℕ-discrete, arith, Bool, true, false, cond, List, _≢_, _⊎_, inl, inr, _≡_, refl, sym, ap, _∙_, eqb, length, getD, set, replicate, length-set, getD-set-same, getD-set-other, lt-ltb, le-ltb, eq-eqb, ne-eqb, eqb-true}, proofs.Bools.{which, not-both, or-left, or-right, or-cases, or-both-false}}
 use Rattle.area_table.specs.AreaTable.{root, ends, child, findFrom, placeOf, stateAt, stateIn, HoldsAreas}
 
 root-small : (x : ℕ) → root x < 1024
@@ -29,19 +29,11 @@ module _ (links states : List ℕ) (p : ℕ) where
 
   -- where the table can tell, the area has a place
   place-told : stateAt links states p ≢ 3 → p < 3074
-  place-told n = go (decLt p 3074)
-    where
-      go : Dec (p < 3074) → p < 3074
-      go (yes l) = l
-      go (no l) = absurd (n (state-none (omega arith)))
+  place-told n = elim (decLt p 3074) [ yes l ↦ l | no l ↦ absurd (n (state-none (omega arith))) ]
 
   -- where that is empty, another node can be made
   room-told : stateAt links states p ≢ 3 → getD links p 0 ≡ 0 → getD links 1024 0 < 1024
-  room-told n e = go (decLt (getD links 1024 0) 1024)
-    where
-      go : Dec (getD links 1024 0 < 1024) → getD links 1024 0 < 1024
-      go (yes l) = l
-      go (no l) = absurd (n (state-full (place-told n) e (omega arith)))
+  room-told n e = elim (decLt (getD links 1024 0) 1024) [ yes l ↦ l | no l ↦ absurd (n (state-full (place-told n) e (omega arith))) ]
 
   -- and nothing is known
   empty-told : stateAt links states p ≢ 3 → getD links p 0 ≡ 0 → stateAt links states p ≡ 0
@@ -74,11 +66,8 @@ module _ (links areas : List ℕ) (x p : ℕ) where
   -- at a node, it is the area's
   ends-says : ends links areas x p ≡ true → getD links p 0 ≢ 0 → getD areas (getD links p 0) 0 ≡ x
   unfolding ends
-  ends-says h n = go (or-cases (eqb (getD links p 0) 0) (eqb (getD areas (getD links p 0) 0) x) h)
-    where
-      go : (eqb (getD links p 0) 0 ≡ true) ⊎ (eqb (getD areas (getD links p 0) 0) x ≡ true) → getD areas (getD links p 0) 0 ≡ x
-      go (inl e) = absurd (n (eqb-true _ _ e))
-      go (inr e) = eqb-true _ _ e
+  ends-says h n =
+      elim (or-cases (eqb (getD links p 0) 0) (eqb (getD areas (getD links p 0) 0) x) h) [ inl e ↦ absurd (n (eqb-true _ _ e)) | inr e ↦ eqb-true _ _ e ]
 
 module _ (links areas : List ℕ) (x : ℕ) where
   pub find-out : (n rest p : ℕ) → 1025 ≤ getD links p 0 → findFrom links areas x n rest p ≡ 3074
@@ -105,24 +94,23 @@ module _ (links areas : List ℕ) (x : ℕ) where
   unfolding findFrom
   find-zero rest p = refl
 
-  -- the place that is found is empty, or its node is the area's
-  find-says : (n rest p : ℕ) → findFrom links areas x n rest p < 3074
-      → (getD links (findFrom links areas x n rest p) 0 < 1025) × (ends links areas x (findFrom links areas x n rest p) ≡ true)
-  find-says zero rest p l = absurd (omega (arith, find-zero rest p))
-  find-says (suc n) rest p l = go (decLt (getD links p 0) 1025) (find-says n (rest / 2) (child links rest p)) (ends links areas x p) refl
-    where
-      go : Dec (getD links p 0 < 1025)
-          → (findFrom links areas x n (rest / 2) (child links rest p) < 3074
-          → (getD links (findFrom links areas x n (rest / 2) (child links rest p)) 0 < 1025) × (ends links areas x (findFrom links areas x n (rest / 2) (child links rest p)) ≡ true))
-          → (b : Bool) → ends links areas x p ≡ b
-          → (getD links (findFrom links areas x (suc n) rest p) 0 < 1025) × (ends links areas x (findFrom links areas x (suc n) rest p) ≡ true)
-      go (no h) on b e = absurd (omega (arith, find-out (suc n) rest p (omega arith)))
-      go (yes h) on true e = rw (find-end (suc n) rest p (omega arith) h e) (h, e)
-      go (yes h) on false e = let q = find-step n rest p h e in rw q (on (rw q at l))
+  -- The place that is found is empty, or its node is the area's. What holds of the first place, and with a node's place of its children, holds of it.
+  find-says : (P : ℕ → Type 0) → ((rest p : ℕ) → P p → ends links areas x p ≡ false → P (child links rest p)) → (n rest p : ℕ) → P p
+      → findFrom links areas x n rest p < 3074 → P (findFrom links areas x n rest p)
+      × (getD links (findFrom links areas x n rest p) 0 < 1025) × (ends links areas x (findFrom links areas x n rest p) ≡ true)
+  find-says P on zero rest p h l = absurd (omega (arith, find-zero rest p))
+  find-says P on (suc n) rest p h l =
+      elim (decLt (getD links p 0) 1025) [
+        | no m ↦ absurd (omega (arith, find-out (suc n) rest p (omega arith)))
+        | yes m ↦ elim (which (ends links areas x p)) [
+          | inl e ↦ rw (find-end (suc n) rest p (omega arith) m e) (h, m, e)
+          | inr e ↦ let q = find-step n rest p m e in rw q (find-says P on n (rest / 2) (child links rest p) (on rest p h e) (rw q at l))
+        ]
+      ]
 
   place-says : placeOf links areas x < 3074 → (getD links (placeOf links areas x) 0 < 1025) × (ends links areas x (placeOf links areas x) ≡ true)
   unfolding placeOf
-  place-says = find-says 33 x (root x)
+  place-says l = let (_, k, e) = find-says (λ _. Unit) (λ _ _ _ _. tt) 33 x (root x) tt l in (k, e)
 
   -- from an empty place no walk goes on
   find-stays : (n rest p : ℕ) → getD links p 0 ≡ 0 → findFrom links areas x n rest p < 3074 → getD links (findFrom links areas x n rest p) 0 ≡ 0
@@ -148,23 +136,12 @@ module _ (links areas : List ℕ) (c : ℕ) (counted : (p : ℕ) → getD links 
       let z : getD links p 0 ≢ 0 = λ q. not-both e (ends-empty links areas x p q) in
       record { other = λ q. z (omega arith); low = omega arith }
 
-  find-child : (n rest p : ℕ) → Child c p → findFrom links areas x n rest p < 3074 → Child c (findFrom links areas x n rest p)
-  find-child zero rest p h l = absurd (omega (arith, find-zero links areas x rest p))
-  find-child (suc n) rest p h l = go (decLt (getD links p 0) 1025) (find-child n (rest / 2) (child links rest p)) (ends links areas x p) refl
-    where
-      go : Dec (getD links p 0 < 1025)
-          → (Child c (child links rest p) → findFrom links areas x n (rest / 2) (child links rest p) < 3074 → Child c (findFrom links areas x n (rest / 2) (child links rest p)))
-          → (b : Bool) → ends links areas x p ≡ b → Child c (findFrom links areas x (suc n) rest p)
-      go (no m) on b e = absurd (omega (arith, find-out links areas x (suc n) rest p (omega arith)))
-      go (yes m) on true e = rw (find-end links areas x (suc n) rest p (omega arith) m e) h
-      go (yes m) on false e = let q = find-step links areas x n rest p m e in rw q (on (child-on rest p e) (rw q at l))
-
   root-child : Child c (root x)
   root-child = record { other = λ q. omega (arith, root-small x); low = omega (arith, root-small x) }
 
   place-child : placeOf links areas x < 3074 → Child c (placeOf links areas x)
   unfolding placeOf
-  place-child = find-child 33 x (root x) root-child
+  place-child l = find-says links areas x (Child c) (λ rest p _ e. child-on rest p e) 33 x (root x) root-child l .0
 
 -- ---- a new node
 
@@ -206,47 +183,37 @@ module _ (links areas links′ areas′ : List ℕ) (c p a : ℕ) (g : Grown lin
       rw (g .link) (g .links-other s (λ e. omega arith) (λ e. omega arith) ∙ g .fresh s (omega arith))
 
   walk-new : (n rest : ℕ) → Walk links′ p a x (findFrom links areas x (suc n) rest p) (findFrom links′ areas′ x (suc n) rest p)
-  walk-new n rest = go (ℕ-discrete x a)
-    where
-      link : getD links′ p 0 < 1025
-      link = omega (arith, g .link, g .room)
-
-      here : getD areas′ (getD links′ p 0) 0 ≡ a
-      here = rw (g .link) (g .area)
-
-      before : findFrom links areas x (suc n) rest p ≡ p
-      before = find-end links areas x (suc n) rest p (omega arith) (omega (arith, g .empty)) (ends-empty links areas x p (g .empty))
-
-      go : Dec (x ≡ a) → Walk links′ p a x (findFrom links areas x (suc n) rest p) (findFrom links′ areas′ x (suc n) rest p)
-      go (yes e) = own e before (find-end links′ areas′ x (suc n) rest p (omega arith) link (ends-own links′ areas′ x p (here ∙ sym e)))
-      go (no m) =
-          let f = ends-not links′ areas′ x p (λ e. omega (arith, g .link)) (λ e. m (sym e ∙ here)) in
-          past m before (rw (find-step links′ areas′ x n rest p link f) (find-stays links′ areas′ x n (rest / 2) (child links′ rest p) (child-new rest)))
+  walk-new n rest =
+      let link : getD links′ p 0 < 1025 = omega (arith, g .link, g .room) in
+      let here : getD areas′ (getD links′ p 0) 0 ≡ a = rw (g .link) (g .area) in
+      let before = find-end links areas x (suc n) rest p (omega arith) (omega (arith, g .empty)) (ends-empty links areas x p (g .empty)) in
+      elim (ℕ-discrete x a) [
+        | yes e ↦ own e before (find-end links′ areas′ x (suc n) rest p (omega arith) link (ends-own links′ areas′ x p (here ∙ sym e)))
+        | no m ↦
+            let f = ends-not links′ areas′ x p (λ e. omega (arith, g .link)) (λ e. m (sym e ∙ here)) in
+            past m before (rw (find-step links′ areas′ x n rest p link f) (find-stays links′ areas′ x n (rest / 2) (child links′ rest p) (child-new rest)))
+      ]
 
   walk : (n rest q : ℕ) → Child c q → Walk links′ p a x (findFrom links areas x n rest q) (findFrom links′ areas′ x n rest q)
   walk zero rest q h =
       let l = g .place .low in
       rw (find-zero links areas x rest q, find-zero links′ areas′ x rest q) (same refl (λ e. omega (arith, g .room)))
-  walk (suc n) rest q h = go (ℕ-discrete q p) (walk n (rest / 2) (child links rest q)) (ends links areas x q) refl
-    where
-      link : getD links q 0 < 1025
-      link = omega (arith, g .counted q, g .room)
-
-      go : Dec (q ≡ p)
-          → (Child c (child links rest q)
-          → Walk links′ p a x (findFrom links areas x n (rest / 2) (child links rest q)) (findFrom links′ areas′ x n (rest / 2) (child links rest q)))
-          → (b : Bool) → ends links areas x q ≡ b → Walk links′ p a x (findFrom links areas x (suc n) rest q) (findFrom links′ areas′ x (suc n) rest q)
-      go (yes e) on b t = rw e (walk-new n rest)
-      go (no m) on true t =
-          let link′ : getD links′ q 0 < 1025 = rw (g .links-other q m (h .other)) link in
-          let before = find-end links areas x (suc n) rest q (omega arith) link t in
-          let after = find-end links′ areas′ x (suc n) rest q (omega arith) link′ (ends-other q m (h .other) ∙ t) in
-          rw (before, after) (same refl m)
-      go (no m) on false t =
-          let link′ : getD links′ q 0 < 1025 = rw (g .links-other q m (h .other)) link in
-          let before = find-step links areas x n rest q link t in
-          let after = find-step links′ areas′ x n rest q link′ (ends-other q m (h .other) ∙ t) in
-          rw (before, after, child-other rest q m (h .other)) (on (child-on links areas c (g .counted) x rest q t))
+  walk (suc n) rest q h =
+      elim (ℕ-discrete q p) [
+        | yes e ↦ rw e (walk-new n rest)
+        | no m ↦
+            let link : getD links q 0 < 1025 = omega (arith, g .counted q, g .room) in
+            let link′ : getD links′ q 0 < 1025 = rw (g .links-other q m (h .other)) link in
+            elim (which (ends links areas x q)) [
+              | inl t ↦
+                  let after = find-end links′ areas′ x (suc n) rest q (omega arith) link′ (ends-other q m (h .other) ∙ t) in
+                  rw (find-end links areas x (suc n) rest q (omega arith) link t, after) (same refl m)
+              | inr t ↦
+                  let after = find-step links′ areas′ x n rest q link′ (ends-other q m (h .other) ∙ t) in
+                  rw (find-step links areas x n rest q link t, after, child-other rest q m (h .other))
+                  (walk n (rest / 2) (child links rest q) (child-on links areas c (g .counted) x rest q t))
+            ]
+      ]
 
   place-walk : Walk links′ p a x (placeOf links areas x) (placeOf links′ areas′ x)
   unfolding placeOf
@@ -254,12 +221,8 @@ module _ (links areas links′ areas′ : List ℕ) (c p a : ℕ) (g : Grown lin
 
 -- the area's node is the new one
 place-new : (links areas links′ areas′ : List ℕ) (c p a : ℕ) → Grown links areas links′ areas′ c p a → placeOf links areas a ≡ p → placeOf links′ areas′ a ≡ p
-place-new links areas links′ areas′ c p a g e = go (place-walk links areas links′ areas′ c p a g a)
-  where
-    go : Walk links′ p a a (placeOf links areas a) (placeOf links′ areas′ a) → placeOf links′ areas′ a ≡ p
-    go (same _ n) = absurd (n e)
-    go (own _ _ q) = q
-    go (past n _ _) = absurd (n refl)
+place-new links areas links′ areas′ c p a g e =
+    elim (place-walk links areas links′ areas′ c p a g a) [ same _ n ↦ absurd (n e) | own _ _ q ↦ q | past n _ _ ↦ absurd (n refl) ]
 
 -- of another area the same is known as before, where the table can tell
 module _ (links areas states links′ areas′ states′ : List ℕ) (c p a : ℕ) (g : Grown links areas links′ areas′ c p a) (count : getD links 1024 0 ≡ c)
@@ -267,51 +230,34 @@ module _ (links areas states links′ areas′ states′ : List ℕ) (c p a : �
   -- at the same place
   same-told : (x : ℕ) → placeOf links areas x < 3074 → placeOf links areas x ≢ p → stateAt links′ states′ (placeOf links areas x) ≢ 3
       → stateAt links′ states′ (placeOf links areas x) ≡ stateAt links states (placeOf links areas x)
-  same-told x l n t = go (ℕ-discrete (getD links r 0) 0)
-    where
-      r : ℕ
-      r = placeOf links areas x
-
-      link : getD links′ r 0 ≡ getD links r 0
-      link = g .links-other r n (place-child links areas c (g .counted) x l .other)
-
-      go : Dec (getD links r 0 ≡ 0) → stateAt links′ states′ r ≡ stateAt links states r
-      go (yes e) = empty-told links′ states′ r t (link ∙ e) ∙ sym (state-empty links states r l e (omega (arith, g .room)))
-      go (no m) =
-          state-node links′ states′ r l (λ e. m (sym link ∙ e))
-          ∙ ap (λ (k : ℕ). getD states′ k 0) link
-          ∙ states-other (getD links r 0) (λ e. omega (arith, g .counted r))
-          ∙ sym (state-node links states r l m)
+  same-told x l n t =
+      let r = placeOf links areas x in
+      let link : getD links′ r 0 ≡ getD links r 0 = g .links-other r n (place-child links areas c (g .counted) x l .other) in
+      elim (ℕ-discrete (getD links r 0) 0) [
+        | yes e ↦ empty-told links′ states′ r t (link ∙ e) ∙ sym (state-empty links states r l e (omega (arith, g .room)))
+        | no m ↦
+            state-node links′ states′ r l (λ e. m (sym link ∙ e)) ∙ ap (λ (k : ℕ). getD states′ k 0) link
+            ∙ states-other (getD links r 0) (λ e. omega (arith, g .counted r)) ∙ sym (state-node links states r l m)
+      ]
 
   told-after : (x : ℕ) → x ≢ a → stateAt links′ states′ (placeOf links′ areas′ x) ≢ 3
       → stateAt links′ states′ (placeOf links′ areas′ x) ≡ stateAt links states (placeOf links areas x)
-  told-after x n t = go (place-walk links areas links′ areas′ c p a g x)
-    where
-      l : placeOf links′ areas′ x < 3074
-      l = place-told links′ states′ (placeOf links′ areas′ x) t
-
-      go : Walk links′ p a x (placeOf links areas x) (placeOf links′ areas′ x)
-          → stateAt links′ states′ (placeOf links′ areas′ x) ≡ stateAt links states (placeOf links areas x)
-      go (same e m) = rw e (same-told x (rw e at l) m (rw e at t))
-      go (own e _ _) = absurd (n e)
-      go (past _ e empty) =
-          let low = g .place .low in
-          empty-told links′ states′ (placeOf links′ areas′ x) t (empty l)
-          ∙ rw e (sym (state-empty links states p (omega (arith, g .room)) (g .empty) (omega (arith, g .room))))
+  told-after x n t =
+      let l = place-told links′ states′ (placeOf links′ areas′ x) t in
+      elim (place-walk links areas links′ areas′ c p a g x) [
+        | same e m ↦ rw e (same-told x (rw e at l) m (rw e at t))
+        | own e _ _ ↦ absurd (n e)
+        | past _ e empty ↦
+            let low = g .place .low in
+            empty-told links′ states′ (placeOf links′ areas′ x) t (empty l)
+            ∙ rw e (sym (state-empty links states p (omega (arith, g .room)) (g .empty) (omega (arith, g .room))))
+      ]
 
 -- ---- what the arrays hold
 
 pub holds-same : {few links areas states : List ℕ} {f g : ℕ → ℕ} → HoldsAreas few links areas states f → ((x : ℕ) → f x ≡ g x) → HoldsAreas few links areas states g
 holds-same h e =
-    record {
-      fews = h .fews;
-      places = h .places;
-      nodes = h .nodes;
-      filled = h .filled;
-      told = λ x n. h .told x n ∙ e x;
-      counted = h .counted;
-      fresh = h .fresh;
-    }
+    record { sizes = h .sizes; told = λ x n. h .told x n ∙ e x; counted = h .counted; fresh = h .fresh }
 
 -- place r is the area's: its node is one of the table's
 pub place-link : (links areas : List ℕ) (x r : ℕ) → r ≡ placeOf links areas x → r < 3074 → getD links r 0 < 1025
@@ -336,99 +282,72 @@ module _ (few links areas states : List ℕ) (f : ℕ → ℕ) (h : HoldsAreas f
   told-put : (few′ links′ areas′ states′ : List ℕ) → stateIn few′ links′ areas′ states′ a ≡ v
       → ((x : ℕ) → x ≢ a → stateIn few′ links′ areas′ states′ x ≢ 3 → stateIn few′ links′ areas′ states′ x ≡ stateIn few links areas states x)
       → (x : ℕ) → stateIn few′ links′ areas′ states′ x ≢ 3 → stateIn few′ links′ areas′ states′ x ≡ cond (eqb x a) v (f x)
-  told-put few′ links′ areas′ states′ new old x n = go (ℕ-discrete x a)
-    where
-      go : Dec (x ≡ a) → stateIn few′ links′ areas′ states′ x ≡ cond (eqb x a) v (f x)
-      go (yes e) = rw (e, eq-eqb a a refl) new
-      go (no m) = let q = old x m n in rw (ne-eqb x a m) (q ∙ h .told x (λ t. n (q ∙ t)))
+  told-put few′ links′ areas′ states′ new old x n =
+      elim (ℕ-discrete x a) [
+        | yes e ↦ rw (e, eq-eqb a a refl) new
+        | no m ↦ let q = old x m n in rw (ne-eqb x a m) (q ∙ h .told x (λ t. n (q ∙ t)))
+      ]
 
   pub holds-put-few : a < 1024 → HoldsAreas (set few a v) links areas states (λ x. cond (eqb x a) v (f x))
   holds-put-few l =
-      let fews = h .fews in
+      let sizes = h .sizes in
+      let new : stateIn (set few a v) links areas states a ≡ v = state-few _ links areas states a l ∙ getD-set-same few a v 0 (omega arith) in
+      let other : (x : ℕ) → x ≢ a → stateIn (set few a v) links areas states x ≡ stateIn few links areas states x =
+      λ x m. elim (decLt x 1024) [
+        | yes k ↦ state-few _ links areas states x k ∙ getD-set-other few a x v 0 m ∙ sym (state-few few links areas states x k)
+        | no k ↦ state-large _ links areas states x (omega arith) ∙ sym (state-large few links areas states x (omega arith))
+      ] in
       record {
-        fews = simp length-set fews;
-        places = h .places;
-        nodes = h .nodes;
-        filled = h .filled;
-        told =
-            told-put (set few a v) links areas states (state-few _ links areas states a l ∙ getD-set-same few a v 0 (omega arith)) (λ x m n. other x m (decLt x 1024));
+        sizes = simp length-set sizes;
+        told = told-put (set few a v) links areas states new (λ x m _. other x m);
         counted = h .counted;
         fresh = h .fresh;
       }
-    where
-      other : (x : ℕ) → x ≢ a → Dec (x < 1024) → stateIn (set few a v) links areas states x ≡ stateIn few links areas states x
-      other x m (yes k) = state-few _ links areas states x k ∙ getD-set-other few a x v 0 m ∙ sym (state-few few links areas states x k)
-      other x m (no k) = state-large _ links areas states x (omega arith) ∙ sym (state-large few links areas states x (omega arith))
 
   -- what is known of the large areas tells what is known of all
   told-large : (links′ areas′ states′ : List ℕ) → 1024 ≤ a → stateAt links′ states′ (placeOf links′ areas′ a) ≡ v
       → ((x : ℕ) → x ≢ a → stateAt links′ states′ (placeOf links′ areas′ x) ≢ 3 → stateAt links′ states′ (placeOf links′ areas′ x) ≡ stateAt links states (placeOf links areas x))
       → (x : ℕ) → stateIn few links′ areas′ states′ x ≢ 3 → stateIn few links′ areas′ states′ x ≡ cond (eqb x a) v (f x)
   told-large links′ areas′ states′ l new old =
-      told-put few links′ areas′ states′ (state-large few links′ areas′ states′ a l ∙ new) (λ x m n. other x m n (decLt x 1024))
-    where
-      other : (x : ℕ) → x ≢ a → stateIn few links′ areas′ states′ x ≢ 3 → Dec (x < 1024) → stateIn few links′ areas′ states′ x ≡ stateIn few links areas states x
-      other x m n (yes k) = state-few few links′ areas′ states′ x k ∙ sym (state-few few links areas states x k)
-      other x m n (no k) =
-          let e = state-large few links′ areas′ states′ x (omega arith) in
-          e ∙ old x m (λ t. n (e ∙ t)) ∙ sym (state-large few links areas states x (omega arith))
+      told-put few links′ areas′ states′ (state-large few links′ areas′ states′ a l ∙ new) (λ x m n.
+      elim (decLt x 1024) [
+        | yes k ↦ state-few few links′ areas′ states′ x k ∙ sym (state-few few links areas states x k)
+        | no k ↦
+            let e = state-large few links′ areas′ states′ x (omega arith) in
+            e ∙ old x m (λ t. n (e ∙ t)) ∙ sym (state-large few links areas states x (omega arith))
+      ])
 
   pub holds-put-node : 1024 ≤ a → (p : ℕ) → p ≡ placeOf links areas a → p < 3074 → getD links p 0 ≢ 0
       → HoldsAreas few links areas (set states (getD links p 0) v) (λ x. cond (eqb x a) v (f x))
   holds-put-node l p e b n =
-      record {
-        fews = h .fews;
-        places = h .places;
-        nodes = h .nodes;
-        filled = simp length-set (h .filled);
-        told = told-large links areas states′ l new other;
-        counted = h .counted;
-        fresh = h .fresh;
-      }
-    where
-      k : ℕ
-      k = getD links p 0
-
-      states′ : List ℕ
-      states′ = set states k v
-
-      small : k < 1025
-      small = place-link links areas a p e b
-
-      new : stateAt links states′ (placeOf links areas a) ≡ v
-      new = let filled = h .filled in rw (← e) (state-node links states′ p b n ∙ getD-set-same states k v 0 (omega (arith, small)))
-
-      mine : getD areas k 0 ≡ a
-      mine = ends-says links areas a p (rw e (place-says links areas a (rw e at b) .1)) n
-
-      other : (x : ℕ) → x ≢ a → stateAt links states′ (placeOf links areas x) ≢ 3 → stateAt links states′ (placeOf links areas x) ≡ stateAt links states (placeOf links areas x)
-      other x m t = go (ℕ-discrete (getD links r 0) 0)
-        where
-          r : ℕ
-          r = placeOf links areas x
-
-          q : r < 3074
-          q = place-told links states′ r t
-
-          go : Dec (getD links r 0 ≡ 0) → stateAt links states′ r ≡ stateAt links states r
-          go (yes e) =
-              empty-told links states′ r t e
-              ∙ sym (state-empty links states r q e (room-told links states′ r t e))
-          go (no z) =
-              let own = ends-says links areas x r (place-says links areas x q .1) z in
-              state-node links states′ r q z
-              ∙ getD-set-other states k (getD links r 0) v 0 (λ e. m (sym own ∙ ap (λ (i : ℕ). getD areas i 0) e ∙ mine))
-              ∙ sym (state-node links states r q z)
+      let sizes = h .sizes in
+      let k = getD links p 0 in
+      let states′ = set states k v in
+      let small = place-link links areas a p e b in
+      let new : stateAt links states′ (placeOf links areas a) ≡ v =
+      rw (← e) (state-node links states′ p b n ∙ getD-set-same states k v 0 (omega arith)) in
+      let mine : getD areas k 0 ≡ a = ends-says links areas a p (rw e (place-says links areas a (rw e at b) .1)) n in
+      let other : (x : ℕ) → x ≢ a → stateAt links states′ (placeOf links areas x) ≢ 3
+      → stateAt links states′ (placeOf links areas x) ≡ stateAt links states (placeOf links areas x) =
+      λ x m t.
+      let r = placeOf links areas x in
+      let q = place-told links states′ r t in
+      elim (ℕ-discrete (getD links r 0) 0) [
+        | yes e ↦ empty-told links states′ r t e ∙ sym (state-empty links states r q e (room-told links states′ r t e))
+        | no z ↦
+            let own = ends-says links areas x r (place-says links areas x q .1) z in
+            state-node links states′ r q z
+            ∙ getD-set-other states k (getD links r 0) v 0 (λ e. m (sym own ∙ ap (λ (i : ℕ). getD areas i 0) e ∙ mine))
+            ∙ sym (state-node links states r q z)
+      ] in
+      record { sizes = simp length-set sizes; told = told-large links areas states′ l new other; counted = h .counted; fresh = h .fresh }
 
   pub holds-put-new : 1024 ≤ a → (p : ℕ) → p ≡ placeOf links areas a → p < 3074 → getD links p 0 ≡ 0 → getD links 1024 0 < 1024
       → HoldsAreas few (set (set links p (getD links 1024 0 + 1)) 1024 (getD links 1024 0 + 1)) (set areas (getD links 1024 0 + 1) a)
       (set states (getD links 1024 0 + 1) v) (λ x. cond (eqb x a) v (f x))
   holds-put-new l p e b z room =
       record {
-        fews = h .fews;
-        places = simp length-set (h .places);
-        nodes = simp length-set (h .nodes);
-        filled = simp length-set (h .filled);
+        sizes = simp length-set (h .sizes);
         told = told-large links′ areas′ states′ l new (told-after links areas states links′ areas′ states′ c p a grown refl (λ k m. getD-set-other states (c + 1) k v 0 m));
         counted = λ i. counted i (ℕ-discrete i p) (ℕ-discrete i 1024);
         fresh = fresh;
@@ -451,18 +370,18 @@ module _ (few links areas states : List ℕ) (f : ℕ → ℕ) (h : HoldsAreas f
 
       link : getD links′ p 0 ≡ c + 1
       link =
-          let places = h .places in
+          let sizes = h .sizes in
           getD-set-other (set links p (c + 1)) 1024 p (c + 1) 0 (place .other) ∙ getD-set-same links p (c + 1) 0 (omega (arith, b))
 
       count : getD links′ 1024 0 ≡ c + 1
-      count = let places = h .places in getD-set-same (set links p (c + 1)) 1024 (c + 1) 0 (simp length-set (omega arith))
+      count = let sizes = h .sizes in getD-set-same (set links p (c + 1)) 1024 (c + 1) 0 (simp length-set (omega arith))
 
       links-other : (i : ℕ) → i ≢ p → i ≢ 1024 → getD links′ i 0 ≡ getD links i 0
       links-other i n m = getD-set-other (set links p (c + 1)) 1024 i (c + 1) 0 m ∙ getD-set-other links p i (c + 1) 0 n
 
       grown : Grown links areas links′ areas′ c p a
       grown =
-          let nodes = h .nodes in
+          let sizes = h .sizes in
           record {
             room = room;
             counted = h .counted;
@@ -477,7 +396,7 @@ module _ (few links areas states : List ℕ) (f : ℕ → ℕ) (h : HoldsAreas f
 
       new : stateAt links′ states′ (placeOf links′ areas′ a) ≡ v
       new =
-          let filled = h .filled in
+          let sizes = h .sizes in
           rw (place-new links areas links′ areas′ c p a grown (sym e))
           (state-node links′ states′ p b (λ e. omega (arith, link)) ∙ rw link (getD-set-same states (c + 1) v 0 (omega (arith, room))))
 
@@ -494,25 +413,23 @@ module _ (few links areas states : List ℕ) (f : ℕ → ℕ) (h : HoldsAreas f
 -- ---- the empty table
 
 -- where every link is 0, nothing is known of any area, whatever stands in the nodes
-pub holds-empty : (few links areas states : List ℕ) → length few ≡ 1024 → length links ≡ 3074 → length areas ≡ 1025 → length states ≡ 1025
+holds-empty : (few links areas states : List ℕ)
+    → (length few ≡ 1024) × (length links ≡ 3074) × (length areas ≡ 1025) × (length states ≡ 1025)
     → ((i : ℕ) → getD few i 0 ≡ 0) → ((p : ℕ) → getD links p 0 ≡ 0) → HoldsAreas few links areas states (λ _. 0)
-holds-empty few links areas states fews places nodes filled no-few no-link =
+holds-empty few links areas states sizes no-few no-link =
     record {
-      fews = fews;
-      places = places;
-      nodes = nodes;
-      filled = filled;
-      told = λ x _. told x (decLt x 1024);
+      sizes = sizes;
+      told =
+          λ x _. elim (decLt x 1024) [
+            | yes l ↦ state-few few links areas states x l ∙ no-few x
+            | no l ↦
+                state-large few links areas states x (omega arith)
+                ∙ ap (stateAt links states) (place-at-root links areas x (no-link (root x)))
+                ∙ state-empty links states (root x) (omega (arith, root-small x)) (no-link (root x)) (omega (arith, no-link 1024))
+          ];
       counted = λ p. omega (arith, no-link p);
       fresh = λ p _. no-link p;
     }
-  where
-    told : (x : ℕ) → Dec (x < 1024) → stateIn few links areas states x ≡ 0
-    told x (yes l) = state-few few links areas states x l ∙ no-few x
-    told x (no l) =
-        state-large few links areas states x (omega arith)
-        ∙ ap (stateAt links states) (place-at-root links areas x (no-link (root x)))
-        ∙ state-empty links states (root x) (omega (arith, root-small x)) (no-link (root x)) (omega (arith, no-link 1024))
 
 zeros : (n i : ℕ) → getD {A = ℕ} (replicate n 0) i 0 ≡ 0
 zeros zero i = refl
@@ -521,14 +438,5 @@ zeros (suc n) (suc i) = zeros n i
 
 pub holds-none : HoldsAreas (replicate 1024 0) (replicate 3074 0) (replicate 1025 0) (replicate 1025 0) (λ _. 0)
 holds-none =
-    holds-empty
-    (replicate 1024 0)
-    (replicate 3074 0)
-    (replicate 1025 0)
-    (replicate 1025 0)
-    (length-replicate {A = ℕ} 1024 0)
-    (length-replicate {A = ℕ} 3074 0)
-    (length-replicate {A = ℕ} 1025 0)
-    (length-replicate {A = ℕ} 1025 0)
-    (zeros 1024)
-    (zeros 3074)
+    let size = length-replicate {A = ℕ} in
+    holds-empty _ _ _ _ (size 1024 0, size 3074 0, size 1025 0, size 1025 0) (zeros 1024) (zeros 3074)

@@ -42,10 +42,7 @@ stateIn few links areas states area = cond (ltb area 1024) (getD few area 0) (st
 
 -- f says of every area what is known of it, wherever the table can tell
 pub record HoldsAreas (few links areas states : List ℕ) (f : ℕ → ℕ) : Type 0 where
-  pub fews : length few ≡ 1024
-  pub places : length links ≡ 3074
-  pub nodes : length areas ≡ 1025
-  pub filled : length states ≡ 1025
+  pub sizes : (length few ≡ 1024) × (length links ≡ 3074) × (length areas ≡ 1025) × (length states ≡ 1025)
   pub told : (x : ℕ) → stateIn few links areas states x ≢ 3 → stateIn few links areas states x ≡ f x
   -- nodes are numbered from 1 on, and those to come have no children
   pub counted : (p : ℕ) → getD links p 0 ≤ getD links 1024 0

@@ -1,7 +1,7 @@
 -- Laws of the definitions over the indexes below n. A law `..-more` is for a loop that goes from n to n + 1.
 use native.Mathlib.Nat.{mul-suc}
 use Rattle.rows.specs.Below.{anyBelow, orLater, firstBelow, lastBelow, sumBelow, countBelow, nthBelow}
-use Rattle.rows.proofs.{Kit.{_≡_, refl, ap₂, _∙_, Bool, true, false, cond, _&&_, _||_, false≢true, and-false, _≢_, _↔_, _⊎_, inl, inr, Option, none, some, ℕ, zero, suc, _+_, _*_, _≤_, _<_, zero-le, not-suc-le-zero, eq-or-lt-of-le, le-of-suc-le-suc, add-suc, add-zero, arith, add-one, eqb, eq-eqb, eqb-true, ne-eqb}, Bools.{not-both, is-false, or-left, or-right, or-cases, and-parts, cond-map}}
+use Rattle.rows.proofs.{Kit.{_≡_, refl, ap₂, _∙_, Bool, true, false, cond, _&&_, _||_, false≢true, and-false, _≢_, _↔_, _⊎_, inl, inr, Option, none, some, ℕ, zero, suc, _+_, _*_, _≤_, _<_, zero-le, not-suc-le-zero, eq-or-lt-of-le, le-of-suc-le-suc, add-suc, add-zero, arith, add-one, eqb, eq-eqb, eqb-true, ne-eqb}, Bools.{which, not-both, is-false, or-left, or-right, or-cases, and-parts, cond-map}}
 
 -- below suc n: n itself, or below n
 pub top : {i n : ℕ} → i < suc n → (i ≡ n) ⊎ (i < n)
@@ -87,11 +87,13 @@ LastAt n p i = (i < n) × (p i ≡ true) × ((j : ℕ) → i < j → j < n → p
 pub last-says : (n : ℕ) (p : ℕ → Bool) (i : ℕ) → lastBelow n p ≡ some i → LastAt n p i
 unfolding lastBelow
 last-says zero p i h = absurd (false≢true (cc))
-last-says (suc n) p i h = go (last-says n p i) (p n) refl h
-  where
-    go : (lastBelow n p ≡ some i → LastAt n p i) → (b : Bool) → p n ≡ b → cond b (some n) (lastBelow n p) ≡ some i → LastAt (suc n) p i
-    go rest true e f = let q : n ≡ i = cc in (omega arith, rw q at e, λ j l k. absurd (omega arith))
-    go rest false e f = let (l, g, after) = rest f in (omega arith, g, λ j k m. elim (top m) [ inl q ↦ rw q e | inr h ↦ after j k h ])
+last-says (suc n) p i h =
+    elim (which (p n)) [
+      | inl e ↦ let q : n ≡ i = cc (rw e at h) in (omega arith, rw q at e, λ j l k. absurd (omega arith))
+      | inr e ↦
+          let (l, g, after) = last-says n p i (rw e at h) in
+          (omega arith, g, λ j k m. elim (top m) [ inl q ↦ rw q e | inr r ↦ after j k r ])
+    ]
 
 pub says-last : (n : ℕ) (p : ℕ → Bool) (i : ℕ) → LastAt n p i → lastBelow n p ≡ some i
 unfolding lastBelow
@@ -214,15 +216,14 @@ nth-number (suc n) p i l h =
 pub nth-says : (n : ℕ) (p : ℕ → Bool) (k i : ℕ) → nthBelow n p k ≡ some i → (i < n) × (p i ≡ true) × (countBelow i p ≡ k)
 unfolding nthBelow
 nth-says zero p k i h = absurd (false≢true (cc))
-nth-says (suc n) p k i h = go (nth-says n p k i) (p n && eqb (countBelow n p) k) refl h
-  where
-    go : (nthBelow n p k ≡ some i → (i < n) × (p i ≡ true) × (countBelow i p ≡ k)) → (b : Bool) → (p n && eqb (countBelow n p) k) ≡ b
-        → cond b (some n) (nthBelow n p k) ≡ some i → (i < suc n) × (p i ≡ true) × (countBelow i p ≡ k)
-    go rest true e f =
-        let q : n ≡ i = cc in
-        let (g, c) = and-parts (p n) (eqb (countBelow n p) k) e in
-        (omega arith, rw q at g, eqb-true _ _ (rw q at c))
-    go rest false e f = let (l, g, c) = rest f in (omega arith, g, c)
+nth-says (suc n) p k i h =
+    elim (which (p n && eqb (countBelow n p) k)) [
+      | inl e ↦
+          let q : n ≡ i = cc (rw e at h) in
+          let (g, c) = and-parts (p n) (eqb (countBelow n p) k) e in
+          (omega arith, rw q at g, eqb-true _ _ (rw q at c))
+      | inr e ↦ let (l, g, c) = nth-says n p k i (rw e at h) in (omega arith, g, c)
+    ]
 
 pub nth-more : {A : Type 0} (f : Option ℕ → A) (n : ℕ) (p : ℕ → Bool) (k : ℕ)
     → f (nthBelow (n + 1) p k) ≡ cond (p n && eqb (countBelow n p) k) (f (some n)) (f (nthBelow n p k))

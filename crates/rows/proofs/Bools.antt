@@ -11,6 +11,11 @@ pub is-false : (b : Bool) → (b ≡ true → ⊥) → b ≡ false
 is-false true f = absurd (f refl)
 is-false false f = refl
 
+-- a test passes or fails: for a proof by cases
+pub which : (b : Bool) → (b ≡ true) ⊎ (b ≡ false)
+which true = inl refl
+which false = inr refl
+
 -- two tests that pass together are equal
 pub same-test : (b c : Bool) → (b ≡ true → c ≡ true) → (c ≡ true → b ≡ true) → b ≡ c
 same-test true c f g = sym (f refl)

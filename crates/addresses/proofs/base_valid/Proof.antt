@@ -3,9 +3,6 @@ use Rattle.addresses.specs.Addresses.{baseValid}
 use Rattle.addresses.proofs.base_valid.Statement.{statement}
 use Rattle.addresses.proofs.base_valid.Tie as tie
 
-returns : tie.Need-returns
-unfolding baseValid
-returns c = cc
-
 pub base-valid-spec : {M : Type 1} → statement M
-base-valid-spec = tie.close (tie.spec (λ c κs. search needs) (λ c κs. search needs) returns)
+unfolding baseValid
+base-valid-spec = tie.close (tie.spec (λ c κs. search needs) (λ c κs. search needs) (λ c. cc))

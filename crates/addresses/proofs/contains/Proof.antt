@@ -3,9 +3,6 @@ use Rattle.addresses.specs.Addresses.{contains}
 use Rattle.addresses.proofs.contains.Statement.{statement}
 use Rattle.addresses.proofs.contains.Tie as tie
 
-returns : tie.Need-returns
-unfolding contains
-returns c = cc
-
 pub contains-spec : {M : Type 1} → statement M
-contains-spec = tie.close (tie.spec (λ c κs. search needs) returns)
+unfolding contains
+contains-spec = tie.close (tie.spec (λ c κs. search needs) (λ c. cc))

@@ -3,9 +3,6 @@ use Rattle.addresses.specs.Addresses.{isMultiple}
 use Rattle.addresses.proofs.on_page.Statement.{statement}
 use Rattle.addresses.proofs.on_page.Tie as tie
 
-returns : tie.Need-returns
-unfolding isMultiple
-returns c = refl
-
 pub on-page-spec : {M : Type 1} → statement M
-on-page-spec = tie.close (tie.spec returns)
+unfolding isMultiple
+on-page-spec = tie.close (tie.spec (λ c. refl))

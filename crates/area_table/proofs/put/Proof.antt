@@ -1,78 +1,31 @@
-use Rattle.rows.proofs.Kit.{arith, needs}
+use Rattle.rows.proofs.Kit.{_<_, _≡_, arith, getD, now, needs}
 use Rattle.area_table.proofs.{AreaTableLaws.{holds-put-few, holds-put-node, holds-put-new, told-place, told-link, told-room}, put.Statement.statement}
 use Rattle.area_table.proofs.put.Tie as tie
 
-element-copy-out-k : tie.Need-element-copy-out-k
-element-copy-out-k c =
+-- the area has a place, and where that is empty there is room for its node
+told : (c : tie.After-place-of) → let links = now (c .before .before .before .before .args .links) in let p = c .place-of .result in
+    (p < 3074) × (getD links p 0 < 1025) × (getD links p 0 ≡ 0 → getD links 1024 0 < 1024)
+told c =
     let p = c .place-of .ensures .0 in
     let s = c .before .before .before .before in
-    told-place _ _ _ _ _ (omega arith) (s .pre) _ p
+    (told-place _ _ _ _ _ (omega arith) (s .pre) _ p, told-link _ _ _ _ _ (omega arith) (s .pre) _ p, told-room _ _ _ _ _ (omega arith) (s .pre) _ p)
 
-cast-k : tie.Need-cast-k
-cast-k c =
-    let p = c .before .place-of .ensures .0 in
-    let s = c .before .before .before .before .before in
-    omega (arith, told-link _ _ _ _ _ (omega arith) (s .pre) _ p)
-
-element-write-states : tie.Need-element-write-states
-element-write-states c =
-    let p = c .before .before .place-of .ensures .0 in
-    let s = c .before .before .before .before .before .before in
-    omega (arith, told-link _ _ _ _ _ (omega arith) (s .pre) _ p)
+room : (c : tie.After-m) → getD (now (c .before .before .before .before .before .before .before .args .links)) 1024 0 < 1024
+room c = told (c .before .before .before) .2 (omega arith)
 
 returns-2 : tie.Need-returns-2
 returns-2 c =
-    let p = c .before .before .place-of .ensures .0 in
-    let s = c .before .before .before .before .before .before in
-    let l = told-place _ _ _ _ _ (omega arith) (s .pre) _ p in
-    λ f h. holds-put-node _ _ _ _ f h _ _ (omega arith) _ p l (λ z. omega arith)
-
-add-m : tie.Need-add-m
-add-m c =
-    let p = c .before .before .before .place-of .ensures .0 in
-    let s = c .before .before .before .before .before .before .before in
-    omega (arith, told-room _ _ _ _ _ (omega arith) (s .pre) _ p (omega arith))
-
-cast-n : tie.Need-cast-n
-cast-n c =
-    let p = c .before .before .before .place-of .ensures .0 in
-    let s = c .before .before .before .before .before .before .before in
-    omega (arith, told-room _ _ _ _ _ (omega arith) (s .pre) _ p (omega arith))
-
-mul-areas : tie.Need-mul-areas
-mul-areas c =
-    let p = c .before .before .before .place-of .ensures .0 in
-    let s = c .before .before .before .before .before .before .before in
-    omega (arith, told-room _ _ _ _ _ (omega arith) (s .pre) _ p (omega arith))
-
-element-write-areas : tie.Need-element-write-areas
-element-write-areas c =
-    let p = c .before .before .before .place-of .ensures .0 in
-    let s = c .before .before .before .before .before .before .before in
-    omega (arith, told-room _ _ _ _ _ (omega arith) (s .pre) _ p (omega arith))
-
-element-write-states-2 : tie.Need-element-write-states-2
-element-write-states-2 c =
-    let p = c .before .before .before .place-of .ensures .0 in
-    let s = c .before .before .before .before .before .before .before in
-    omega (arith, told-room _ _ _ _ _ (omega arith) (s .pre) _ p (omega arith))
-
-element-write-links : tie.Need-element-write-links
-element-write-links c =
-    let p = c .before .before .before .place-of .ensures .0 in
-    let s = c .before .before .before .before .before .before .before in
-    told-place _ _ _ _ _ (omega arith) (s .pre) _ p
+    let s = c .before .before in
+    λ f h. holds-put-node _ _ _ _ f h _ _ (omega arith) _ (s .place-of .ensures .0) (told s .0) (λ z. omega arith)
 
 returns-3 : tie.Need-returns-3
 returns-3 c =
-    let p = c .before .before .before .place-of .ensures .0 in
-    let s = c .before .before .before .before .before .before .before in
-    let l = told-place _ _ _ _ _ (omega arith) (s .pre) _ p in
-    let room = told-room _ _ _ _ _ (omega arith) (s .pre) _ p (omega arith) in
-    λ f h. holds-put-new _ _ _ _ f h _ _ (omega arith) _ p l (omega arith) room
+    let s = c .before .before .before in
+    λ f h. holds-put-new _ _ _ _ f h _ _ (omega arith) _ (s .place-of .ensures .0) (told s .0) (omega arith) (room c)
 
 pub put-spec : {M : Type 1} → statement M
 put-spec =
     tie.close (tie.spec (λ c. search needs) (λ c. λ f h. holds-put-few _ _ _ _ f h _ _ (omega arith)) (λ c κs. search needs)
-    (λ c. search needs) element-copy-out-k cast-k element-write-states returns-2 (λ c. search needs) add-m cast-n mul-areas
-    element-write-areas element-write-states-2 (λ c. search needs) element-write-links (λ c. search needs) returns-3)
+    (λ c. search needs) (λ c. told c .0) (λ c. omega (arith, told (c .before) .1)) (λ c. omega (arith, told (c .before .before) .1)) returns-2
+    (λ c. search needs) (λ c. omega (arith, room c)) (λ c. omega (arith, room c)) (λ c. omega (arith, room c)) (λ c. omega (arith, room c))
+    (λ c. omega (arith, room c)) (λ c. search needs) (λ c. told (c .before .before .before) .0) (λ c. search needs) returns-3)

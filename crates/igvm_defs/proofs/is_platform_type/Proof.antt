@@ -3,9 +3,6 @@ use Rattle.igvm_defs.specs.Platforms.{isPlatformType, platformTypes}
 use Rattle.igvm_defs.proofs.is_platform_type.Statement.{statement}
 use Rattle.igvm_defs.proofs.is_platform_type.Tie as tie
 
-returns : tie.Need-returns
-unfolding isPlatformType platformTypes
-returns c = refl
-
 pub is-platform-type-spec : {M : Type 1} → statement M
-is-platform-type-spec = tie.close (tie.spec returns)
+unfolding isPlatformType platformTypes
+is-platform-type-spec = tie.close (tie.spec (λ c. refl))

@@ -3,9 +3,7 @@ use Rattle.le.specs.Le.{leAt}
 use Rattle.le.proofs.u16_at.Statement.{statement}
 use Rattle.le.proofs.u16_at.Tie as tie
 
-returns : tie.Need-returns
-unfolding leAt sumBelow
-returns c = rw add-zero (omega arith)
-
 pub u16-at-spec : {M : Type 1} → statement M
-u16-at-spec = tie.close (tie.spec (λ c. search needs) (λ c. search needs) (λ c. search needs) (λ c κs. search needs) returns)
+unfolding leAt sumBelow
+u16-at-spec =
+    tie.close (tie.spec (λ c. search needs) (λ c. search needs) (λ c. search needs) (λ c κs. search needs) (λ c. rw add-zero (omega arith)))

@@ -3,11 +3,8 @@ use Rattle.le.specs.Le.{leAt}
 use Rattle.le.proofs.u32_at.Statement.{statement}
 use Rattle.le.proofs.u32_at.Tie as tie
 
-returns : tie.Need-returns
-unfolding leAt sumBelow
-returns c = rw add-zero (omega arith)
-
 pub u32-at-spec : {M : Type 1} → statement M
+unfolding leAt sumBelow
 u32-at-spec =
     tie.close (tie.spec (λ c. search needs) (λ c. search needs) (λ c. search needs) (λ c. search needs) (λ c. search needs)
-    (λ c. search needs) (λ c. search needs) (λ c κs. search needs) returns)
+    (λ c. search needs) (λ c. search needs) (λ c κs. search needs) (λ c. rw add-zero (omega arith)))

@@ -4,9 +4,7 @@ use Rattle.masks.proofs.{proofs.MaskLaws.clears-one-bit, proofs.is_one_bit.Sta
 use lib.Count as Count
 use Rattle.masks.proofs.is_one_bit.Tie as tie
 
-returns : tie.Need-returns
-unfolding isOneBit Count.ones
-returns c = rw (c .if1 .taken)
-
 pub is-one-bit-spec : {M : Type 1} → statement M
-is-one-bit-spec = tie.close (tie.spec returns (λ c. search needs) (λ c. clears-one-bit (c .before .args .m) (omega arith)))
+unfolding isOneBit Count.ones
+is-one-bit-spec =
+    tie.close (tie.spec (λ c. rw (c .if1 .taken)) (λ c. search needs) (λ c. clears-one-bit (c .before .args .m) (omega arith)))

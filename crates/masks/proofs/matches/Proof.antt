@@ -3,9 +3,6 @@ use Rattle.masks.specs.Masks.{matches}
 use Rattle.masks.proofs.matches.Statement.{statement}
 use Rattle.masks.proofs.matches.Tie as tie
 
-returns : tie.Need-returns
-unfolding matches
-returns c = refl
-
 pub matches-spec : {M : Type 1} → statement M
-matches-spec = tie.close (tie.spec returns)
+unfolding matches
+matches-spec = tie.close (tie.spec (λ c. refl))

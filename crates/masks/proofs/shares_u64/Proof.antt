@@ -3,9 +3,6 @@ use Rattle.masks.specs.Masks.{shares}
 use Rattle.masks.proofs.shares_u64.Statement.{statement}
 use Rattle.masks.proofs.shares_u64.Tie as tie
 
-returns : tie.Need-returns
-unfolding shares
-returns c = refl
-
 pub shares-u64-spec : {M : Type 1} → statement M
-shares-u64-spec = tie.close (tie.spec returns)
+unfolding shares
+shares-u64-spec = tie.close (tie.spec (λ c. refl))

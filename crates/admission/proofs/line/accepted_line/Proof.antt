@@ -4,9 +4,7 @@ use Rattle.admission.specs.Line.{acceptedLine}
 use Rattle.admission.proofs.line.accepted_line.Statement.{statement}
 use Rattle.admission.proofs.line.accepted_line.Tie as tie
 
-returns : tie.Need-returns
-unfolding acceptedLine
-returns c = c .numbers-line .ensures
-
 pub accepted-line-spec : {M : Type 1} → statement M
-accepted-line-spec = tie.close (tie.spec (λ c. search needs) (λ c. search needs) (λ c. search needs) (λ c κs. search needs) returns)
+unfolding acceptedLine
+accepted-line-spec =
+    tie.close (tie.spec (λ c. search needs) (λ c. search needs) (λ c. search needs) (λ c κs. search needs) (λ c. c .numbers-line .ensures))

@@ -3,9 +3,6 @@ use Rattle.igvm_defs.specs.Refusals.{isFault}
 use Rattle.igvm_defs.proofs.Fault.is_fault.Statement.{statement}
 use Rattle.igvm_defs.proofs.Fault.is_fault.Tie as tie
 
-returns : tie.Need-returns
-unfolding isFault
-returns c = refl
-
 pub is-fault-spec : {M : Type 1} → statement M
-is-fault-spec = tie.close (tie.spec returns)
+unfolding isFault
+is-fault-spec = tie.close (tie.spec (λ c. refl))

@@ -3,9 +3,6 @@ use Rattle.igvm_defs.specs.Refusals.{isRefusal}
 use Rattle.igvm_defs.proofs.Refusal.is_refusal.Statement.{statement}
 use Rattle.igvm_defs.proofs.Refusal.is_refusal.Tie as tie
 
-returns : tie.Need-returns
-unfolding isRefusal
-returns c = refl
-
 pub is-refusal-spec : {M : Type 1} → statement M
-is-refusal-spec = tie.close (tie.spec returns)
+unfolding isRefusal
+is-refusal-spec = tie.close (tie.spec (λ c. refl))
