@@ -1,7 +1,7 @@
 -- Laws of the table of areas: where an area's place is, what a new node changes, and the empty table.
 -- Assumes nothing.
 use lib.ListN.{length-replicate}
-use Rattle.rows.{proofs.Kit.{ℕ, zero, suc, _+_, _*_, _-_, _/_, _%_, _≤_, _<_, decLt, ℕ-discrete, arith, Bool, true, false, cond, List, _≢_, _⊎_, inl, inr, _≡_, refl, sym, ap, _∙_, eqb, length, getD, set, replicate, length-set, getD-set-same, getD-set-other, lt-ltb, le-ltb, eq-eqb, ne-eqb, eqb-true}, proofs.Bools.{which, not-both, or-left, or-right, or-cases, or-both-false}}
+use Rattle.rows.{proofs.Kit.{ℕ, zero, suc, _+_, _*_, _-_, _/_, _%_, _≤_, _<_, decLt, ℕ-discrete, arith, true, false, cond, List, _≢_, inl, inr, _≡_, refl, sym, ap, _∙_, eqb, length, getD, set, replicate, length-set, getD-set-same, getD-set-other, lt-ltb, le-ltb, eq-eqb, ne-eqb, eqb-true}, proofs.Bools.{which, not-both, or-left, or-right, or-cases, or-both-false}}
 use Rattle.area_table.specs.AreaTable.{root, ends, child, findFrom, placeOf, stateAt, stateIn, HoldsAreas}
 
 root-small : (x : ℕ) → root x < 1024

@@ -1,33 +1,15 @@
 -- What the queries answer of two accepted sheets that have as many regions of a mask, the same page table and the same region.
 -- Assumes nothing.
-use Rattle.rows.{proofs.Kit.{_≡_, refl, ap, Bool, true, false, cond, List, _≢_, Option, none, some, ℕ, _+_, _*_, _/_, _<_, _≤_, arith, eqb, ltb, length, lt-ltb, ltb-false, eqb-false}, proofs.Bools.cond-same}
+use Rattle.rows.{proofs.Kit.{_≡_, refl, ap, Bool, true, false, cond, List, _≢_, Option, none, some, ℕ, _+_, _*_, _/_, _<_, arith, length, lt-ltb}, proofs.Bools.cond-same}
 use Rattle.le.specs.Le.{leAt}
-use Rattle.igvm_defs.{specs.declared.Refusal.Refusal, specs.Refusals.{noFault, isRefusal, inRow}, proofs.RefusalLaws.{row-refusal, orElse-later}}
+use Rattle.igvm_defs.{specs.declared.Refusal.Refusal, specs.Refusals.isRefusal, proofs.RefusalLaws.orElse-later}
 use Rattle.sheet.specs.Head.{Limits}
-use Rattle.rules.{specs.declared.IgvmRelocatableRegion.IgvmRelocatableRegion, specs.declared.PageTableRegion.PageTableRegion, specs.Relocations.{regionCount, regionAt, pageTableAt}, proofs.FaultLaws.{refuse-none, else-none}}
+use Rattle.rules.{specs.declared.IgvmRelocatableRegion.IgvmRelocatableRegion, specs.declared.PageTableRegion.PageTableRegion, specs.Relocations.{regionAt, pageTableAt}}
 use Rattle.lent.proofs.LentLaws.{same-words}
-use Rattle.answers.{specs.Verdict.verdictRefusal, specs.Relocations.{sheetInitializations, maskFault, wordsFault, relocationsRefusal, foundOf, relocationsOf, regionWords, wordsAfter, regionFault, checkRefusal, checkOf}}
+use Rattle.answers.{proofs.AnswerLaws.{regionsOf, list-says, found-count}, specs.Verdict.verdictRefusal, specs.Relocations.{sheetInitializations, wordsFault, relocationsRefusal, foundOf, relocationsOf, regionWords, wordsAfter, regionFault, checkRefusal, checkOf}}
 use Rattle.order.specs.Demand.{Accepted}
 
--- how many regions the mask has
-abbrev pub regionsOf : List ℕ → ℕ → ℕ
-regionsOf s given = regionCount (sheetInitializations s) given
-
 -- ---- the region list
-
--- what is known where the list is not refused: the mask is not 0, and there is room for the words
-list-says : (l : Limits) (s : List ℕ) (given bytes : ℕ) → isRefusal (relocationsRefusal l s given bytes) ≡ false
-    → (given ≢ 0) × (8 * regionsOf s given ≤ bytes / 8)
-unfolding relocationsRefusal maskFault wordsFault
-list-says l s given bytes f =
-    let (m, w) = else-none (inRow 0 (maskFault given)) _ .0 (else-none (verdictRefusal l s) _ .0 f .1) in
-    let z = refuse-none (eqb given 0) 34 0 noFault .0 (rw row-refusal at m) .0 in
-    let r = refuse-none (ltb (bytes / 8) (8 * regionsOf s given)) 36 0 noFault .0 (rw row-refusal at w) .0 in
-    (eqb-false given 0 z, ltb-false (bytes / 8) (8 * regionsOf s given) r)
-
-found-count : (count : ℕ) (table : Option PageTableRegion) (r : Refusal) → foundOf count table r .count ≡ count
-found-count count none r = refl
-found-count count (some t) r = refl
 
 found-refusal : (refused : Bool) (count : ℕ) (table : Option PageTableRegion) (r : Refusal)
     → cond refused (foundOf 0 none r) (foundOf count table r) .refusal ≡ r
@@ -57,7 +39,7 @@ module _ (l : Limits) (a b : List ℕ) (va : Accepted l a) (vb : Accepted l b) (
   unfolding relocationsOf
   list-same tables bytes bytes' e =
       rw (list-refusal-same bytes bytes' e, counts)
-      (cond-same (isRefusal (relocationsRefusal l b given bytes')) _ _ _ _ (λ _. refl) (λ f. rw (tables (list-says l b given bytes' f .0))))
+      (cond-same (isRefusal (relocationsRefusal l b given bytes')) _ _ _ _ (λ _. refl) (λ f. rw (tables (list-says l b given bytes' f .1))))
 
   -- two regions that are the same, by their numbers n and m
   pub words-same : (n m : ℕ) → n < regionsOf a given → m < regionsOf b given
@@ -68,8 +50,8 @@ module _ (l : Limits) (a b : List ℕ) (va : Accepted l a) (vb : Accepted l b) (
   words-same n m ln lm e x y h f k lk =
       let fa = rw (list-refusal l a given (length x)) at f in
       let fb = rw (list-refusal-same (length x) (length y) h) at fa in
-      let ra = list-says l a given (length x) fa .1 in
-      let rb = list-says l b given (length y) fb .1 in
+      let ra = list-says l a given (length x) fa .2 in
+      let rb = list-says l b given (length y) fb .2 in
       rw (list-count l a given (length x) fa, list-count l b given (length y) fb)
       (same-words (regionsOf a given) (regionsOf b given) _ _ x y (omega arith) (omega arith) n m k ln lm lk (ap regionWords e))
 
@@ -78,10 +60,5 @@ module _ (l : Limits) (a b : List ℕ) (va : Accepted l a) (vb : Accepted l b) (
       → regionAt (sheetInitializations a) given n ≡ regionAt (sheetInitializations b) given m → checkOf p l a given n ≡ checkOf p l b given m
   unfolding checkOf checkRefusal regionFault
   check-same p n m ln lm e =
-      rw (
-        orElse-later (verdictRefusal l a) _ va,
-        orElse-later (verdictRefusal l b) _ vb,
-        lt-ltb n (regionsOf a given) ln,
-        lt-ltb m (regionsOf b given) lm,
-        e,
-      )
+      rw (orElse-later (verdictRefusal l a) _ va, orElse-later (verdictRefusal l b) _ vb)
+      (rw (lt-ltb n (regionsOf a given) ln, lt-ltb m (regionsOf b given) lm, e))

@@ -1,7 +1,8 @@
 -- Sheets as bytes, built of rows; and two pairings of rows. For the examples.
 -- Assumes nothing.
-use Rattle.rows.proofs.Kit.{_≡_, refl, List, [], _∷_, _++_, ℕ, zero, suc, _+_, _/_, _%_, _<_, arith, length}
-use Rattle.igvm_defs.proofs.Runs.{All, each}
+use Rattle.rows.proofs.Kit.{_≡_, refl, List, [], _∷_, _++_, ℕ, zero, suc, _+_, _/_, _%_, _<_, arith, length, take}
+use Rattle.igvm_defs.{specs.Kinds.fields, proofs.Runs.{All, each}}
+use Rattle.sheet.specs.Table.{rowKind, rowLength, bodyOf}
 use Rattle.order.specs.Reordered.{Alike, PairedRows}
 
 -- ---- bytes
@@ -86,6 +87,10 @@ pub swap-twice : (i : ℕ) → swap (swap i) ≡ i
 swap-twice zero = refl
 swap-twice (suc zero) = refl
 swap-twice (suc (suc i)) = refl
+
+abbrev pub alike : {a b : List ℕ} {k m : ℕ} → rowKind b m ≡ rowKind a k → rowLength b m ≡ rowLength a k
+    → take (fields (rowKind a k)) (bodyOf b m) ≡ take (fields (rowKind a k)) (bodyOf a k) → Alike a b k m
+alike kind long fields = record { kind = kind; bodyLength = long; bodyFields = fields }
 
 module _ {a b : List ℕ} {Tied : ℕ → ℕ → Type 0} {first : ℕ} where
   -- every row in its place

@@ -13,9 +13,9 @@ use Rattle.masks.specs.Masks.{shares, isOneBit, hasBit, bitsBelow, firstMask}
 use Rattle.addresses.specs.Addresses.{isMultiple}
 use Rattle.rules.{specs.Regions.regionPasses, specs.Platforms.{validatePlatform, sameType, platformFault, lastIsCca}, specs.Initializations.{bitWithoutCca, initializationFault}, specs.Directives.{wrongArch, allocates, inserts, isAllocated, badArea, directiveFault}, specs.Verdict.{noPlatform, noMatchingVpContext, platformsRefusal, initializationsRefusal, directivesRefusal, headersRefusal}}
 use Rattle.sheet_headers.specs.Headers.{sheetHeaders}
-use Rattle.answers.specs.Verdict.{verdictRefusal}
+use Rattle.answers.{proofs.AnswerLaws.accepted-readable, specs.Verdict.verdictRefusal}
 use Rattle.order.specs.{Reordered.{PairedRows, OneMask, OneArea, Reordered}, Demand.Accepted}
-use Rattle.order.proofs.{Images.{sheetOf, platform, ccaPolicy, parameterArea, vpCount, parameterInsert, swap, unmoved, exchanged}, Theorem.{accepted-readable, demand-3}}
+use Rattle.order.proofs.{Images.{alike, sheetOf, platform, ccaPolicy, parameterArea, vpCount, parameterInsert, swap, unmoved, exchanged}, Theorem.demand-3}
 
 -- ---- the sheets
 
@@ -100,11 +100,8 @@ unfolding areaFirst areaLast isRefusal headOf rowKind rowLength offsetOf bodyOf 
 areas-keep f =
     let accepted = verdicts .0 in
     let refused = verdicts .1 in
-    let platforms = unmoved 1 (record { kind = refl; bodyLength = refl; bodyFields = refl } ⨾ tt) in
-    let directives = exchanged 0 (
-    record { kind = refl; bodyLength = refl; bodyFields = refl } ⨾
-    record { kind = refl; bodyLength = refl; bodyFields = refl } ⨾
-    tt) (λ i j l m t. absurd t) in
+    let platforms = unmoved 1 (alike refl refl refl ⨾ tt) in
+    let directives = exchanged 0 (alike refl refl refl ⨾ alike refl refl refl ⨾ tt) (λ i j l m t. absurd t) in
     true≢false (rw refused at (f areaFirst areaLast (accepted-readable limits areaFirst accepted) refl refl platforms (unmoved 0 tt) directives accepted))
 
 -- so must the inserts among them: here the area is inserted before it is allocated
@@ -113,11 +110,8 @@ unfolding insertLast insertFirst isRefusal headOf rowKind rowLength offsetOf bod
 inserts-keep f =
     let accepted = verdicts .2 in
     let refused = verdicts .3 in
-    let platforms = unmoved 1 (record { kind = refl; bodyLength = refl; bodyFields = refl } ⨾ tt) in
-    let directives = exchanged 0 (
-    record { kind = refl; bodyLength = refl; bodyFields = refl } ⨾
-    record { kind = refl; bodyLength = refl; bodyFields = refl } ⨾
-    tt) keeps in
+    let platforms = unmoved 1 (alike refl refl refl ⨾ tt) in
+    let directives = exchanged 0 (alike refl refl refl ⨾ alike refl refl refl ⨾ tt) keeps in
     true≢false (rw refused at (f insertLast insertFirst (accepted-readable limits insertLast accepted) refl refl platforms (unmoved 0 tt) directives accepted))
   where
     keeps : (i j : ℕ) → i < j → j < 2 → OneAreaNotInserted insertLast (1 + i) (1 + j) → swap i < swap j
@@ -132,11 +126,8 @@ unfolding ccaLast ccaFirst isRefusal headOf rowKind rowLength offsetOf bodyOf ki
 platforms-keep f =
     let accepted = verdicts .4 in
     let refused = verdicts .5 in
-    let platforms = exchanged 0 (
-    record { kind = refl; bodyLength = refl; bodyFields = refl } ⨾
-    record { kind = refl; bodyLength = refl; bodyFields = refl } ⨾
-    tt) (λ i j l m t. absurd t) in
-    let initializations = unmoved 1 (record { kind = refl; bodyLength = refl; bodyFields = refl } ⨾ tt) in
+    let platforms = exchanged 0 (alike refl refl refl ⨾ alike refl refl refl ⨾ tt) (λ i j l m t. absurd t) in
+    let initializations = unmoved 1 (alike refl refl refl ⨾ tt) in
     true≢false (rw refused at (f ccaLast ccaFirst (accepted-readable limits ccaLast accepted) refl refl platforms initializations (unmoved 0 tt) accepted))
 
 -- no byte may be left over
@@ -145,5 +136,5 @@ unfolding plain longer isRefusal headOf rowKind rowLength offsetOf bodyOf kindOf
 nothing-left f =
     let accepted = verdicts .6 in
     let refused = verdicts .7 in
-    let platforms = unmoved 1 (record { kind = refl; bodyLength = refl; bodyFields = refl } ⨾ tt) in
+    let platforms = unmoved 1 (alike refl refl refl ⨾ tt) in
     true≢false (rw refused at (f plain longer (accepted-readable limits plain accepted) refl tt platforms (unmoved 0 tt) (unmoved 0 tt) accepted))

@@ -36,23 +36,21 @@ pub record Partner (a b : List ℕ) (m : ℕ) : Type 0 where
 
 module _ {a b : List ℕ} (R : Reordered a b) where
   pub partner : (m : ℕ) → m < rowCount (headOf a) → Partner a b m
-  partner m l = go (decLt m (headOf a .platforms)) (decLt m (headOf a .platforms + headOf a .initializations))
-    where
-      go : Dec (m < headOf a .platforms) → Dec (m < headOf a .platforms + headOf a .initializations) → Partner a b m
-      go (yes y) z =
-          let (k, g, h, q) = partner-in (R .platforms) m (omega arith) (omega arith) in
-          record { row = k; below = omega arith; list = rw (platform-list (headOf a) m y, platform-list (headOf a) k (omega arith)); alike = q }
-      go (no n) (yes y) =
-          let (k, g, h, q) = partner-in (R .initializations) m (omega arith) (omega arith) in
-          record {
-            row = k;
-            below = omega arith;
-            list = rw (initialization-list (headOf a) m (omega arith) y, initialization-list (headOf a) k g h);
-            alike = q;
-          }
-      go (no n) (no o) =
-          let (k, g, h, q) = partner-in (R .directives) m (omega arith) (omega arith) in
-          record { row = k; below = omega arith; list = rw (directive-list (headOf a) m (omega arith), directive-list (headOf a) k g); alike = q }
+  partner m l =
+      elim (decLt m (headOf a .platforms)) [
+        | yes y ↦
+            let (k, g, h, q) = partner-in (R .platforms) m (omega arith) (omega arith) in
+            record { row = k; below = omega arith; list = rw (platform-list (headOf a) m y, platform-list (headOf a) k (omega arith)); alike = q }
+        | no n ↦ elim (decLt m (headOf a .platforms + headOf a .initializations)) [
+          | yes y ↦
+              let (k, g, h, q) = partner-in (R .initializations) m (omega arith) (omega arith) in
+              let list : listAt (headOf a) m ≡ listAt (headOf a) k = rw (initialization-list (headOf a) m (omega arith) y, initialization-list (headOf a) k g h) in
+              record { row = k; below = omega arith; list = list; alike = q }
+          | no o ↦
+              let (k, g, h, q) = partner-in (R .directives) m (omega arith) (omega arith) in
+              record { row = k; below = omega arith; list = rw (directive-list (headOf a) m (omega arith), directive-list (headOf a) k g); alike = q }
+        ]
+      ]
 
   pub bodies-same : sumBelow (rowCount (headOf a)) (rowLength b) ≡ sumBelow (rowCount (headOf a)) (rowLength a)
   bodies-same =

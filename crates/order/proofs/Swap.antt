@@ -12,9 +12,9 @@ use Rattle.masks.specs.Masks.{shares, matches, isOneBit, hasBit, bitsBelow, fir
 use Rattle.addresses.specs.Addresses.{isMultiple, meets, endsBeyond}
 use Rattle.rules.{specs.Regions.{regionPasses, tablesShare, overlap}, specs.Platforms.{validatePlatform, sameType, platformFault, lastIsCca}, specs.Initializations.{validateRegion, validateTable, bitWithoutCca, initializationFault}, specs.Directives.{wrongArch, allocates, inserts, isAllocated, badArea, directiveFault, noContext}, specs.Verdict.{noPlatform, noMatchingVpContext, platformsRefusal, initializationsRefusal, directivesRefusal, headersRefusal}}
 use Rattle.sheet_headers.specs.Headers.{sheetHeaders}
-use Rattle.answers.{specs.Verdict.verdictRefusal, specs.Relocations.{relocationsOf, wordsAfter}}
+use Rattle.answers.{proofs.AnswerLaws.accepted-readable, specs.Verdict.verdictRefusal, specs.Relocations.{relocationsOf, wordsAfter}}
 use Rattle.order.specs.{Reordered.{OneMask, OneArea, Reordered}, Demand.{Accepted, SameAnswers}}
-use Rattle.order.proofs.{Images.{sheetOf, platform, ccaPolicy, region, pageTable, pageData, parameterArea, vpCount, aarch64Vbs, swap, exchanged}, Theorem.{accepted-readable, demand-3}}
+use Rattle.order.proofs.{Images.{alike, sheetOf, platform, ccaPolicy, region, pageTable, pageData, parameterArea, vpCount, aarch64Vbs, swap, exchanged}, Theorem.demand-3}
 
 unfoldable pub sheetA : List ℕ
 sheetA =
@@ -34,22 +34,9 @@ reordered =
     record {
       head = refl;
       whole = refl;
-      platforms = exchanged 0 (
-          record { kind = refl; bodyLength = refl; bodyFields = refl } ⨾
-          record { kind = refl; bodyLength = refl; bodyFields = refl } ⨾
-          tt) other-masks;
-      initializations = exchanged 2 (
-          record { kind = refl; bodyLength = refl; bodyFields = refl } ⨾
-          record { kind = refl; bodyLength = refl; bodyFields = refl } ⨾
-          record { kind = refl; bodyLength = refl; bodyFields = refl } ⨾
-          record { kind = refl; bodyLength = refl; bodyFields = refl } ⨾
-          tt) (λ i j l m t. absurd t);
-      directives = exchanged 2 (
-          record { kind = refl; bodyLength = refl; bodyFields = refl } ⨾
-          record { kind = refl; bodyLength = refl; bodyFields = refl } ⨾
-          record { kind = refl; bodyLength = refl; bodyFields = refl } ⨾
-          record { kind = refl; bodyLength = refl; bodyFields = refl } ⨾
-          tt) one-area;
+      platforms = exchanged 0 (alike refl refl refl ⨾ alike refl refl refl ⨾ tt) other-masks;
+      initializations = exchanged 2 (alike refl refl refl ⨾ alike refl refl refl ⨾ alike refl refl refl ⨾ alike refl refl refl ⨾ tt) (λ i j l m t. absurd t);
+      directives = exchanged 2 (alike refl refl refl ⨾ alike refl refl refl ⨾ alike refl refl refl ⨾ alike refl refl refl ⨾ tt) one-area;
     }
   where
     -- the two platforms have two masks

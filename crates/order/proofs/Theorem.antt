@@ -4,14 +4,10 @@ use Rattle.rows.proofs.Kit.{_≡_, sym, List, ℕ, _<_}
 use Rattle.sheet.{specs.Head.{Limits, headOf}, specs.Read.{Readable, sheetRefusal}, proofs.Readable.sheet-says}
 use Rattle.rules.{specs.Accepted.NotRefused, specs.Relocations.regionAt, proofs.FaultLaws.else-none, proofs.Order.same-answers, proofs.QueryLaws.number-below, proofs.SoundLaws.accepted-sound}
 use Rattle.sheet_headers.specs.Headers.{sheetHeaders}
-use Rattle.answers.{specs.Verdict.verdictRefusal, specs.Relocations.sheetInitializations}
+use Rattle.answers.{proofs.AnswerLaws.regionsOf, specs.Verdict.verdictRefusal, specs.Relocations.sheetInitializations}
 use Rattle.order.specs.{Reordered.Reordered, Demand.{Accepted, IsRegion, numberIn, SameAnswers}}
-use Rattle.order.proofs.{ReadableToo.{heads, readable-too}, Lists.{paired-in, headers-reordered}, Answers.{regionsOf, list-same, words-same, check-same}}
+use Rattle.order.proofs.{ReadableToo.{heads, readable-too}, Lists.{paired-in, headers-reordered}, Answers.{list-same, words-same, check-same}}
 use Rattle.rules.specs.Reordered as rules
-
-pub accepted-readable : (l : Limits) (s : List ℕ) → Accepted l s → Readable l s
-unfolding verdictRefusal
-accepted-readable l s v = sheet-says l s .0 (else-none (sheetRefusal l s) _ .0 v .0) .0
 
 -- the headers of an accepted sheet meet none of 8 to 34
 accepted-headers : (l : Limits) (s : List ℕ) → Accepted l s → NotRefused (sheetHeaders s)

@@ -1,20 +1,16 @@
 -- What the calls answer where one of their refusals applies, and where none does.
 -- Assumes nothing.
-use Rattle.rows.{proofs.Kit.{_≡_, refl, ap, sym, _∙_, Bool, true, false, _&&_, List, Option, none, some, ℕ, zero, suc, _*_, _/_, _≤_, _<_, arith, ltb, length, ltb-false}, proofs.Bools.{or-false-parts, ltb-same}}
-use Rattle.igvm_defs.{specs.declared.Refusal.Refusal, specs.Refusals.{noFault, noRefusal, isFault, isRefusal, inRow, orElse}, proofs.RefusalLaws.{orElse-first, orElse-later, else-refusal, row-refusal, no-fault-row, refuse-fault}}
-use Rattle.sheet.{specs.Head.{Limits, limits}, specs.Read.{Readable, sheetRefusal}, proofs.Readable.{readable-bounds, sheet-says}}
-use Rattle.rules.{specs.Relocations.{regionCount, regionAt, pageTableAt}, specs.declared.IgvmRelocatableRegion.IgvmRelocatableRegion, specs.declared.PageTableRegion.PageTableRegion}
+use Rattle.rows.{proofs.Kit.{_≡_, refl, ap, sym, _∙_, Bool, true, false, _&&_, List, Option, none, some, ℕ, zero, suc, _*_, _/_, _≤_, _<_, arith, ltb, length}, proofs.Bools.{which, or-false-parts, ltb-same}}
+use Rattle.igvm_defs.{specs.declared.Refusal.Refusal, specs.Refusals.{noRefusal, isRefusal, inRow, orElse}, proofs.RefusalLaws.{orElse-first, orElse-later, else-refusal, row-refusal, no-fault-row}}
+use Rattle.sheet.{specs.Head.{Limits, limits}, specs.Read.Readable, proofs.Readable.readable-bounds}
+use Rattle.rules.{specs.Relocations.{regionAt, pageTableAt}, specs.declared.IgvmRelocatableRegion.IgvmRelocatableRegion, specs.declared.PageTableRegion.PageTableRegion}
 use Rattle.initialization_check.specs.declared.RelocRegions.{RelocRegions}
 use Rattle.sheet_headers.specs.Headers.{sheetHeaders}
 use Rattle.lent.{specs.Lent.rowsPut, proofs.LentLaws.rows-none}
-use Rattle.answers.{specs.declared.Checked.Checked, specs.Verdict.verdictRefusal, specs.Relocations.{sheetInitializations, maskFault, wordsFault, relocationsRefusal, foundOf, relocationsOf, regionWords, wordsAfter, regionFault, checkRefusal, testRegion, checkOf}}
+use Rattle.answers.{proofs.AnswerLaws.{regionsOf, accepted-readable, list-says, found-count}, specs.declared.Checked.Checked, specs.Verdict.verdictRefusal, specs.Relocations.{sheetInitializations, maskFault, wordsFault, relocationsRefusal, foundOf, relocationsOf, regionWords, wordsAfter, regionFault, checkRefusal, testRegion, checkOf}}
 use Rattle.keep.specs.Kept.{Kept}
 use Rattle.regions.{specs.declared.FoundRegion.FoundRegion, specs.declared.FoundTable.FoundTable, specs.Found.{foundRegion, foundTable}}
 use Rattle.relocations.specs.Query.{queryRefusal}
-
--- the mask's regions
-abbrev pub count : List ℕ → ℕ → ℕ
-count s given = regionCount (sheetInitializations s) given
 
 abbrev pub checked : Refusal → Bool → Checked
 checked refusal holds = record { refusal = refusal; holds = holds }
@@ -29,19 +25,10 @@ pub found-table : (n : ℕ) (o : Option PageTableRegion) (t : FoundTable) → t 
 found-table n none t e = rw e
 found-table n (some q) t e = rw e
 
-found-count : (n : ℕ) (o : Option PageTableRegion) (r : Refusal) → foundOf n o r .count ≡ n
-found-count n none r = refl
-found-count n (some t) r = refl
-
--- an accepted sheet is readable
-verdict-readable : (l : Limits) (s : List ℕ) → isRefusal (verdictRefusal l s) ≡ false → Readable l s
-unfolding verdictRefusal
-verdict-readable l s h = sheet-says l s .0 (or-false-parts (isRefusal (sheetRefusal l s)) _ (rw else-refusal at h) .0) .0
-
 -- what is kept of an accepted sheet has 64 regions at most
 pub kept-few : (s : List ℕ) {held : RelocRegions} {numbers contexts : List ℕ} → isRefusal (verdictRefusal limits s) ≡ false → Kept s held numbers contexts → held .count ≤ 64
 unfolding sheetHeaders
-kept-few s h k = let b = readable-bounds s (verdict-readable limits s h) in omega (arith, k .regions .count)
+kept-few s h k = let b = readable-bounds s (accepted-readable limits s h) in omega (arith, k .regions .count)
 
 -- a count that may be too high where the room is enough for it decides 37 as the count itself
 pub room-same : (n r many : ℕ) → many ≤ r → (n / 64 < r → r ≡ many) → ltb (n / 8) (8 * r) ≡ ltb (n / 8) (8 * many)
@@ -57,23 +44,22 @@ module _ (l : Limits) (s : List ℕ) (given : ℕ) where
   -- a query that is not refused is of a readable sheet
   query-readable : isRefusal (queryRefusal l s given) ≡ false → Readable l s
   unfolding queryRefusal
-  query-readable h = verdict-readable l s (or-false-parts (isRefusal (verdictRefusal l s)) _ (rw else-refusal at h) .0)
+  query-readable h = accepted-readable l s (or-false-parts (isRefusal (verdictRefusal l s)) _ (rw else-refusal at h) .0)
 
   -- what every query is refused by, then a refusal of its own
   both : (own : Refusal) → orElse (verdictRefusal l s) (orElse (inRow 0 (maskFault given)) own) ≡ orElse (queryRefusal l s given) own
   unfolding queryRefusal
-  both own = go (isRefusal (verdictRefusal l s)) refl
-    where
-      go : (b : Bool) → isRefusal (verdictRefusal l s) ≡ b
-          → orElse (verdictRefusal l s) (orElse (inRow 0 (maskFault given)) own) ≡ orElse (orElse (verdictRefusal l s) (inRow 0 (maskFault given))) own
-      go true e = orElse-first _ _ e ∙ sym (ap (λ r. orElse r own) (orElse-first _ _ e) ∙ orElse-first _ _ e)
-      go false e = orElse-later _ _ e ∙ sym (ap (λ r. orElse r own) (orElse-later _ _ e))
+  both own =
+      elim (which (isRefusal (verdictRefusal l s))) [
+        | inl e ↦ orElse-first _ _ e ∙ sym (ap (λ r. orElse r own) (orElse-first _ _ e) ∙ orElse-first _ _ e)
+        | inr e ↦ orElse-later _ _ e ∙ sym (ap (λ r. orElse r own) (orElse-later _ _ e))
+      ]
 
   pub query-stops : (n : ℕ) → isRefusal (queryRefusal l s given) ≡ true → queryRefusal l s given ≡ relocationsRefusal l s given n
   unfolding relocationsRefusal
   query-stops n h = sym (both _ ∙ orElse-first _ _ h)
 
-  pub words-decide : (n : ℕ) → isRefusal (queryRefusal l s given) ≡ false → inRow 0 (wordsFault (count s given) n) ≡ relocationsRefusal l s given n
+  pub words-decide : (n : ℕ) → isRefusal (queryRefusal l s given) ≡ false → inRow 0 (wordsFault (regionsOf s given) n) ≡ relocationsRefusal l s given n
   unfolding relocationsRefusal
   words-decide n h = sym (both _ ∙ orElse-later _ _ h)
 
@@ -82,14 +68,13 @@ module _ (l : Limits) (s : List ℕ) (given : ℕ) where
   check-stops region h = sym (both _ ∙ orElse-first _ _ h)
 
   pub region-decides : (region : ℕ) → isRefusal (queryRefusal l s given) ≡ false
-      → inRow 0 (regionFault (count s given) region) ≡ checkRefusal l s given region
+      → inRow 0 (regionFault (regionsOf s given) region) ≡ checkRefusal l s given region
   unfolding checkRefusal
   region-decides region h = sym (both _ ∙ orElse-later _ _ h)
 
   -- a call that is not refused is of a readable sheet
   pub list-readable : (n : ℕ) → isRefusal (relocationsRefusal l s given n) ≡ false → Readable l s
-  unfolding relocationsRefusal
-  list-readable n h = query-readable (or-false-parts (isRefusal (queryRefusal l s given)) _ (rw (both, else-refusal) at h) .0)
+  list-readable n h = accepted-readable l s (list-says l s given n h .0)
 
   pub check-readable : (region : ℕ) → isRefusal (checkRefusal l s given region) ≡ false → Readable l s
   unfolding checkRefusal
@@ -114,21 +99,16 @@ module _ (l : Limits) (s : List ℕ) (given : ℕ) where
       both _ ∙ orElse-later _ _ (p .0) ∙ no-fault-row 0 _ (rw row-refusal at (p .1))
 
   pub found-answer : (n : ℕ) → isRefusal (relocationsRefusal l s given n) ≡ false
-      → foundOf (count s given) (pageTableAt (sheetInitializations s) given) noRefusal ≡ relocationsOf l s given n
+      → foundOf (regionsOf s given) (pageTableAt (sheetInitializations s) given) noRefusal ≡ relocationsOf l s given n
   unfolding relocationsOf
   found-answer n h = rw (h, none-refused n h)
 
   -- eight words a region are lent
-  pub room : (n : ℕ) → isRefusal (relocationsRefusal l s given n) ≡ false → 64 * count s given ≤ n
-  unfolding relocationsRefusal wordsFault
-  room n h =
-      let p = or-false-parts (isRefusal (queryRefusal l s given)) _ (rw (both, else-refusal) at h) .1 in
-      let f = or-false-parts (ltb (n / 8) (8 * count s given)) (isFault noFault) (rw (row-refusal, refuse-fault) at p) .0 in
-      let q = ltb-false (n / 8) (8 * count s given) f in
-      omega arith
+  pub room : (n : ℕ) → isRefusal (relocationsRefusal l s given n) ≡ false → 64 * regionsOf s given ≤ n
+  room n h = omega (arith, list-says l s given n h .2)
 
   pub found-words : (b : List ℕ) → isRefusal (relocationsRefusal l s given (length b)) ≡ false
-      → rowsPut (count s given) (λ n. regionWords (regionAt (sheetInitializations s) given n)) b ≡ wordsAfter l s given b
+      → rowsPut (regionsOf s given) (λ n. regionWords (regionAt (sheetInitializations s) given n)) b ≡ wordsAfter l s given b
   unfolding wordsAfter
   found-words b h = rw (← found-answer (length b) h, found-count)
 

@@ -26,6 +26,7 @@ returns-3 c =
 pub put-spec : {M : Type 1} → statement M
 put-spec =
     tie.close (tie.spec (λ c. search needs) (λ c. λ f h. holds-put-few _ _ _ _ f h _ _ (omega arith)) (λ c κs. search needs)
-    (λ c. search needs) (λ c. told c .0) (λ c. omega (arith, told (c .before) .1)) (λ c. omega (arith, told (c .before .before) .1)) returns-2
-    (λ c. search needs) (λ c. omega (arith, room c)) (λ c. omega (arith, room c)) (λ c. omega (arith, room c)) (λ c. omega (arith, room c))
-    (λ c. omega (arith, room c)) (λ c. search needs) (λ c. told (c .before .before .before) .0) (λ c. search needs) returns-3)
+    (λ c. search needs) (λ c. told c .0) (λ c. omega (arith, told (c .before) .1)) (λ c. omega (arith, told (c .before .before) .1))
+    returns-2 (λ c. search needs) (λ c. omega (arith, room c)) (λ c. omega (arith, room c)) (λ c. omega (arith, room c))
+    (λ c. omega (arith, room c)) (λ c. omega (arith, room c)) (λ c. search needs) (λ c. told (c .before .before .before) .0)
+    (λ c. search needs) returns-3)

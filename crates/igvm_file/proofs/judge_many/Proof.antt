@@ -3,21 +3,12 @@ use Rattle.sheet.{proofs.Readable.{start-says, started-bounds}, specs.Head.limi
 use Rattle.igvm_file.proofs.judge_many.Statement.{statement}
 use Rattle.igvm_file.proofs.judge_many.Tie as tie
 
--- src/lib.rt:277:9
--- src/lib.rt:278:9
--- src/lib.rt:279:9
--- src/lib.rt:280:9
--- src/lib.rt:281:9
--- src/lib.rt:282:9
--- src/lib.rt:283:9
--- src/lib.rt:274:5
 judge-requires : tie.Need-judge-requires
 judge-requires c κs =
     let p = c .before .before .before .before .before .before .before .before .before .pre in
     let n = started-bounds _ (start-says limits _ .0 (p .0)) .initializations in
     ((p .0, p .1), ((n, n, n, n, n, n, n), refl))
 
--- src/lib.rt:262:1
 pub judge-many-spec : {M : Type 1} → statement M
 judge-many-spec =
     tie.close (tie.spec (λ c. search needs) (λ c. search needs) (λ c. search needs) (λ c. search needs) (λ c. search needs)

@@ -19,14 +19,6 @@ returns c =
     let a = c .before .before .before .before .args in
     rw e (check-refused limits (now (a .s)) (a .given) _ (a .region) (rw e at (sym (c .before .is-refusal .ensures) ∙ c .if1 .taken)))
 
-new-requires : tie.Need-new-requires
-new-requires c κs =
-    readable-bounds _ (passed c) .head
-
-region-at-requires : tie.Need-region-at-requires
-region-at-requires c κs =
-    (passed (c .before), c .new .ensures)
-
 returns-2 : tie.Need-returns-2
 returns-2 c =
     let d = c .before .before .before .before .before in
@@ -36,5 +28,5 @@ returns-2 c =
 
 pub relocation-base-valid-spec : {M : Type 1} → statement M
 relocation-base-valid-spec =
-    tie.close (tie.spec (λ c κs. search needs) (λ c κs. search needs) returns new-requires region-at-requires (λ c κs. search needs)
-    returns-2)
+    tie.close (tie.spec (λ c κs. search needs) (λ c κs. search needs) returns (λ c κs. readable-bounds _ (passed c) .head)
+    (λ c κs. (passed (c .before), c .new .ensures)) (λ c κs. search needs) returns-2)

@@ -23,10 +23,6 @@ returns c =
       refused-words limits (now (a .s)) (a .given) (now (a .words)) t,
     )
 
-new-requires : tie.Need-new-requires
-new-requires c κs =
-    readable-bounds _ (passed c) .head
-
 put-regions-requires : tie.Need-put-regions-requires
 put-regions-requires c κs =
     let d = c .before .before in
@@ -46,5 +42,5 @@ returns-2 c =
 
 pub relocations-spec : {M : Type 1} → statement M
 relocations-spec =
-    tie.close (tie.spec (λ c κs. search needs) (λ c κs. search needs) (λ c κs. search needs) returns new-requires put-regions-requires
-    (λ c κs. search needs) (λ c. search needs) returns-2)
+    tie.close (tie.spec (λ c κs. search needs) (λ c κs. search needs) (λ c κs. search needs) returns
+    (λ c κs. readable-bounds _ (passed c) .head) put-regions-requires (λ c κs. search needs) (λ c. search needs) returns-2)

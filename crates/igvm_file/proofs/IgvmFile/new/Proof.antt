@@ -8,25 +8,15 @@ use Rattle.igvm_file.proofs.IgvmFile.new.Tie as tie
 started : (c : tie.Else1) → isFault (startFault limits (now (c .before .before .before .before .args .s))) ≡ false
 started c = rw (← c .before .before .start-fault .ensures, ← c .before .is-fault .ensures) (c .if1 .left)
 
--- src/lib.rt:297:13
--- src/lib.rt:298:12
--- src/lib.rt:300:34
--- src/lib.rt:300:26
--- src/lib.rt:299:13
 returns : tie.Need-returns
 returns c =
     let t : isFault (startFault limits (now (c .before .before .before .before .before .before .args .s))) ≡ true = rw (← c .before .before .before .before .start-fault .ensures, ← c .before .before .before .is-fault .ensures) (c .before .before .if1 .taken) in
     let u : isRefusal (inRow 0 (startFault limits (now (c .before .before .before .before .before .before .args .s)))) ≡ true = row-refusal 0 _ ∙ t in
     c .refused .ensures ∙ rw (c .before .in-row .ensures, c .before .before .before .before .start-fault .ensures) (sym (refused limits _ _ (verdict-start limits _ t) u))
 
--- src/lib.rt:303:13
--- src/lib.rt:306:26
 judge-few-requires : tie.Need-judge-few-requires
 judge-few-requires c κs = (started (c .before .before .before), c .before .before .new .ensures, c .if2 .taken)
 
--- src/lib.rt:305:13
--- src/lib.rt:310:22
--- src/lib.rt:294:5
 pub new-spec : {M : Type 1} → statement M
 new-spec =
     tie.close (tie.spec (λ c κs. search needs) (λ c κs. search needs) (λ c κs. search needs) (λ c κs. search needs) returns
