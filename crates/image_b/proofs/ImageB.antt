@@ -1,10 +1,10 @@
--- Document 01's claims of image B, by computation.
+-- Document 01's claims of image B, and what reading it finds after a change, by computation.
 -- Assumes nothing.
 use lib.Count.{ones, onesIn}
 use Rattle.rows.{proofs.Kit.refl, specs.Below.{anyBelow, firstBelow, sumBelow, nthBelow}}
 use Rattle.le.specs.Le.{leAt}
 use Rattle.igvm_defs.{specs.Refusals.{isFault, isRefusal, inRow, orElse, firstFault}, specs.Kinds.{spans, kindOf, lengthOk}, specs.Platforms.{platformTypes, isPlatformType, platformTypeOf}, specs.Vtls.vtlOf, proofs.Runs._⨾_}
-use Rattle.sheet.{specs.Head.{limits, headOf, layoutOk, withinLimits, startFault, revisionOf, pageSizeFault}, specs.Table.{rowKind, rowLength, offsetOf, bodyOf}, specs.Read.{listAt, codesOk, rowFault, endFault, rowsRefusal, readRefusal, sheetRefusal}, proofs.Examples.imageB}
+use Rattle.sheet.{specs.Head.{limits, headOf, layoutOk, withinLimits, startFault, revisionOf, pageSizeFault}, specs.Table.{rowKind, rowLength, offsetOf, bodyOf}, specs.Read.{listAt, codesOk, rowFault, endFault, rowsRefusal, readRefusal, sheetRefusal}}
 use Rattle.platform_header.specs.Platforms.{platformOf}
 use Rattle.initialization_header.specs.Initializations.{initializationOf}
 use Rattle.directive_header.specs.Directives.{directiveOf}
@@ -13,9 +13,9 @@ use Rattle.addresses.specs.Addresses.{isMultiple, contains, meets, endsBeyond, 
 use Rattle.rules.{specs.Regions.{regionPasses, tablesShare, overlap}, specs.Platforms.{validatePlatform, sameType, platformFault}, specs.Initializations.{validateRegion, initializationFault}, specs.Directives.{wrongArch, badArea, directiveFault, noContext}, specs.Verdict.{noPlatform, noMatchingVpContext, platformsRefusal, initializationsRefusal, directivesRefusal, headersRefusal}, specs.Relocations.{regionCount, regionAt}}
 use Rattle.sheet_headers.specs.Headers.{sheetHeaders}
 use Rattle.answers.{specs.Verdict.verdictRefusal, specs.Relocations.{maskFault, regionFault, checkRefusal, checkOf}}
-use Rattle.image_b.specs.Claims.{claims, AllTrue}
+use Rattle.image_b.specs.{ImageB.imageB, Claims.{claims, readings, AllTrue}}
 
-pub image-b : AllTrue claims
+pub image-b : AllTrue claims × AllTrue readings
 unfolding
     ones onesIn anyBelow firstBelow sumBelow nthBelow leAt isFault isRefusal inRow orElse firstFault spans kindOf lengthOk platformTypes
     isPlatformType platformTypeOf vtlOf limits headOf layoutOk withinLimits startFault revisionOf pageSizeFault rowKind rowLength offsetOf bodyOf
@@ -23,4 +23,7 @@ unfolding
     isMultiple contains meets endsBeyond baseValid regionPasses tablesShare overlap validatePlatform sameType platformFault validateRegion
     initializationFault wrongArch badArea directiveFault noContext noPlatform noMatchingVpContext platformsRefusal initializationsRefusal
     directivesRefusal headersRefusal regionCount regionAt sheetHeaders verdictRefusal maskFault regionFault checkRefusal checkOf
-image-b = refl ⨾ refl ⨾ refl ⨾ refl ⨾ refl ⨾ refl ⨾ refl ⨾ refl ⨾ refl ⨾ refl ⨾ refl ⨾ refl ⨾ refl ⨾ tt
+image-b = (
+  refl ⨾ refl ⨾ refl ⨾ refl ⨾ refl ⨾ refl ⨾ refl ⨾ refl ⨾ refl ⨾ refl ⨾ refl ⨾ refl ⨾ refl ⨾ tt,
+  refl ⨾ refl ⨾ refl ⨾ refl ⨾ refl ⨾ refl ⨾ refl ⨾ refl ⨾ refl ⨾ refl ⨾ refl ⨾ refl ⨾ refl ⨾ refl ⨾ refl ⨾ tt,
+)

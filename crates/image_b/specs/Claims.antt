@@ -7,10 +7,10 @@ use lib.ListN.{set, take, drop}
 use Rattle.igvm_defs.specs.declared.Refusal.{Refusal}
 use Rattle.igvm_defs.specs.Refusals.{isRefusal}
 use Rattle.sheet.specs.Head.{limits}
-use Rattle.sheet.proofs.Examples.{imageB}
 use Rattle.answers.specs.declared.Checked.{Checked}
 use Rattle.answers.specs.Verdict.{verdictRefusal}
 use Rattle.answers.specs.Relocations.{baseCheckOf, containsOf}
+use Rattle.image_b.specs.ImageB.{imageB}
 
 -- ---- changes of B
 
@@ -99,6 +99,67 @@ claims =
     ∷ claim unchanged (base 0x1FF000) no
     ∷ claim unchanged (contains 0x101FFF) yes
     ∷ claim unchanged (contains 0x102000) no
+    ∷ []
+
+-- ---- reading: each of 1 to 7, and which comes first where two apply
+
+abbrev pub revision0 : List ℕ → List ℕ
+revision0 s = set s 0 0
+
+-- revision 2 and page size 8192
+abbrev pub pages8192 : List ℕ → List ℕ
+pages8192 s = set (set s 0 2) 5 32
+
+abbrev pub initializations65 : List ℕ → List ℕ
+initializations65 s = set s 10 65
+
+-- kind 0 in row 1, in row 3
+abbrev pub kind0 : List ℕ → List ℕ
+kind0 s = set s 16 0
+
+abbrev pub kind0InRow3 : List ℕ → List ℕ
+kind0InRow3 s = set s 32 0
+
+-- 15 bytes in row 1, whose kind has 16
+abbrev pub length15 : List ℕ → List ℕ
+length15 s = set s 20 15
+
+-- 200 bytes in row 2, whose kind has 48: more than there are
+abbrev pub length200 : List ℕ → List ℕ
+length200 s = set s 28 200
+
+-- VTL 3 in row 2
+abbrev pub vtl3 : List ℕ → List ℕ
+vtl3 s = set s 103 3
+
+abbrev pub byteMore : List ℕ → List ℕ
+byteMore s = s ++ (0 ∷ [])
+
+-- B has 109 bytes, of which the first 40 are head and table
+abbrev pub byteLess : List ℕ → List ℕ
+byteLess s = take 108 s
+
+abbrev pub tableLess : List ℕ → List ℕ
+tableLess s = take 39 s
+
+abbrev pub readings : List Claim
+readings =
+    claim (λ _. []) verdict (refused 1 0 0)
+    ∷ claim tableLess verdict (refused 1 0 0)
+    ∷ claim byteLess verdict (refused 1 3 0)
+    ∷ claim revision0 verdict (refused 2 0 0)
+    ∷ claim initializations65 verdict (refused 3 0 0)
+    ∷ claim kind0 verdict (refused 4 1 0)
+    ∷ claim vtl3 verdict (refused 5 2 0)
+    ∷ claim byteMore verdict (refused 6 0 0)
+    ∷ claim pages8192 verdict (refused 7 0 8192)
+    -- two apply
+    ∷ claim (λ s. revision0 (initializations65 s)) verdict (refused 2 0 0)
+    ∷ claim (λ s. initializations65 (tableLess s)) verdict (refused 3 0 0)
+    ∷ claim (λ s. kind0 (length15 s)) verdict (refused 4 1 0)
+    ∷ claim length200 verdict (refused 5 2 0)
+    ∷ claim (λ s. vtl3 (kind0InRow3 s)) verdict (refused 5 2 0)
+    ∷ claim (λ s. byteMore (pages8192 s)) verdict (refused 6 0 0)
     ∷ []
 
 -- every claim of the table is true
