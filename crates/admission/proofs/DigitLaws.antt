@@ -1,17 +1,14 @@
 -- Laws of decimal digits.
 -- Assumes nothing.
-use Rattle.rows.proofs.Kit.{_≡_, refl, Bool, true, false, cond, [], _∷_, _++_, ℕ, zero, suc, _+_, _-_, _/_, _%_, _≤_, _<_, zero-le, suc-le-suc, arith, ltb, length, length-append, lt-ltb, le-ltb}
+use Rattle.rows.{proofs.Bools.which, proofs.Kit.{inl, inr, _≡_, refl, [], _∷_, _++_, ℕ, zero, suc, _+_, _-_, _/_, _%_, _≤_, _<_, zero-le, arith, ltb, length, length-append, lt-ltb, le-ltb}}
 use Rattle.admission.specs.Line.{digitsIn}
 
 pub digits-short : (k n : ℕ) → length (digitsIn k n) ≤ k
 unfolding digitsIn
 digits-short zero n = zero-le
-digits-short (suc k) n = go (ltb n 10) (digits-short k (n / 10))
-  where
-    go : (b : Bool) → length (digitsIn k (n / 10)) ≤ k
-        → length (cond b ((48 + n) ∷ []) (digitsIn k (n / 10) ++ ((48 + n % 10) ∷ []))) ≤ suc k
-    go true h = suc-le-suc zero-le
-    go false h = rw length-append (omega arith)
+digits-short (suc k) n =
+    let h = digits-short k (n / 10) in
+    elim (which (ltb n 10)) [ inl e ↦ rw e (omega arith) | inr e ↦ rw (e, length-append) (omega arith) ]
 
 -- one digit
 pub digits-one : (k n : ℕ) → (k ≡ 0 → ⊥) → n < 10 → digitsIn k n ≡ (48 + n % 10) ∷ []

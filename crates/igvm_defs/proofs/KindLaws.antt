@@ -1,6 +1,6 @@
 -- Laws of the table of kinds: which kinds a list has, and that a body's fields lie within its least length.
 -- Assumes nothing.
-use Rattle.rows.{proofs.Kit.{_≡_, refl, Bool, true, false, cond, not, _&&_, _||_, false≢true, List, [], _∷_, ℕ, suc, _<_, _≤_, arith, leb, eqb, length, take, leb-true, eq-eqb}, proofs.Bools.and-parts}
+use Rattle.rows.{proofs.Kit.{inl, inr, _≡_, refl, Bool, true, false, not, _&&_, _||_, false≢true, List, [], _∷_, ℕ, suc, _<_, _≤_, arith, leb, eqb, length, take, leb-true, eq-eqb}, proofs.Bools.{which, and-parts}}
 use Rattle.igvm_defs.specs.Kinds.{Span, lookup, spans, kindOf, fields, platformList, initializationList, directiveList}
 
 -- ---- the kinds of a list
@@ -20,16 +20,16 @@ or-not false u h e = absurd (false≢true e)
 
 pub within : (l lo hi k : ℕ) (xs : List Span) → listWithin (suc l) lo hi xs ≡ true → lookup xs k .list ≡ suc l → (lo ≤ k) × (k ≤ hi)
 within l lo hi k [] t e = absurd (omega arith)
-within l lo hi k (x ∷ xs) t e = go (within l lo hi k xs) (leb (x .first) k && leb k (x .last)) refl e
-  where
-    go : (listWithin (suc l) lo hi xs ≡ true → lookup xs k .list ≡ suc l → (lo ≤ k) × (k ≤ hi))
-        → (c : Bool) → (leb (x .first) k && leb k (x .last)) ≡ c → cond c (x .kind) (lookup xs k) .list ≡ suc l → (lo ≤ k) × (k ≤ hi)
-    go rest true c f =
-        let (p, q) = and-parts (leb (x .first) k) (leb k (x .last)) c in
-        let s = and-parts (spanWithin (suc l) lo hi x) (listWithin (suc l) lo hi xs) t .0 in
-        let (y, z) = and-parts (leb lo (x .first)) (leb (x .last) hi) (or-not (eqb (x .kind .list) (suc l)) _ s (eq-eqb (x .kind .list) (suc l) f)) in
-        (omega (arith, leb-true (x .first) k p, leb-true lo (x .first) y), omega (arith, leb-true k (x .last) q, leb-true (x .last) hi z))
-    go rest false c f = rest (and-parts (spanWithin (suc l) lo hi x) (listWithin (suc l) lo hi xs) t .1) f
+within l lo hi k (x ∷ xs) t e =
+    let (s, rest) = and-parts (spanWithin (suc l) lo hi x) (listWithin (suc l) lo hi xs) t in
+    elim (which (leb (x .first) k && leb k (x .last))) [
+      | inl c ↦
+          let (p, q) = and-parts (leb (x .first) k) (leb k (x .last)) c in
+          let own = or-not (eqb (x .kind .list) (suc l)) _ s (eq-eqb (x .kind .list) (suc l) (rw c at e)) in
+          let (y, z) = and-parts (leb lo (x .first)) (leb (x .last) hi) own in
+          (omega (arith, leb-true (x .first) k p, leb-true lo (x .first) y), omega (arith, leb-true k (x .last) q, leb-true (x .last) hi z))
+      | inr c ↦ within l lo hi k xs rest (rw c at e)
+    ]
 
 pub platform-kind : (k : ℕ) → kindOf k .list ≡ platformList → k ≡ 1
 unfolding kindOf spans

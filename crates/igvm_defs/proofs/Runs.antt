@@ -1,6 +1,6 @@
 -- Runs of numbers: a law for each number of a run, and what the `_` of a `match` knows where its other arms are a run.
 -- Assumes nothing.
-use Rattle.rows.proofs.Kit.{_≡_, _⊎_, inl, inr, ℕ, zero, suc, _+_, _<_, _≤_, eq-or-lt-of-le, arith}
+use Rattle.rows.proofs.Kit.{_≡_, inl, inr, ℕ, zero, suc, _+_, _<_, _≤_, eq-or-lt-of-le, arith}
 
 -- a law for each of a, .., a + n - 1, from its proofs: (proof at a) ⨾ .. ⨾ (proof at a + n - 1) ⨾ tt
 infixr 5 _⨾_
@@ -13,11 +13,7 @@ All P a (suc n) = P a × All P (suc a) n
 
 pub each : (P : ℕ → Type 0) (a n : ℕ) → All P a n → (k : ℕ) → a ≤ k → k < a + n → P k
 each P a zero t k h l = absurd (omega arith)
-each P a (suc n) t k h l = go (each P (suc a) n (t .1) k) (eq-or-lt-of-le h)
-  where
-    go : (suc a ≤ k → k < suc a + n → P k) → (a ≡ k) ⊎ (a < k) → P k
-    go rest (inl e) = rw (← e) (t .0)
-    go rest (inr m) = rest m (omega arith)
+each P a (suc n) t k h l = elim (eq-or-lt-of-le h) [ inl e ↦ rw (← e) (t .0) | inr m ↦ each P (suc a) n (t .1) k m (omega arith) ]
 
 -- k is none of a, .., a + n - 1: the shape of a `match`'s `.rest`
 abbrev pub NoneOf : ℕ → ℕ → ℕ → Type 0

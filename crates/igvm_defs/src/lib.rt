@@ -1,6 +1,6 @@
 // What every other crate speaks of: refusals, the tables of kinds and of platform types, architectures, revisions and VTLs.
 ghost use mathlib.Core.Path.{_≡_};
-ghost use Prim.Native.Nat.{ℕ, _+_, _<_};
+ghost use Prim.Native.Nat.{ℕ, _<_};
 ghost use lib.ListN.{getD};
 ghost use Rattle.igvm_defs.specs.Refusals.{fault, refuse, orFault, isFault, isRefusal, inRow};
 ghost use Rattle.igvm_defs.specs.Kinds.{kindOf, noKind, lengthOk};

@@ -6,7 +6,7 @@ use Rattle.rows.{proofs.Kit.{ℕ, zero, suc, _+_, _-_, _*_, _/_, _%_, _^_, _≤
 use Rattle.le.specs.Le.{byteAt, leAt, byteOf}
 use Rattle.lent.specs.Lent.{eachFrom, each, bytesPut, wordPut, rowPut, rowsPut}
 
--- ---- each, from place i on
+-- ---- each byte from place i on
 
 from-length : (i : ℕ) (f : ℕ → ℕ → ℕ) (b : List ℕ) → length (eachFrom i f b) ≡ length b
 unfolding eachFrom
@@ -43,26 +43,9 @@ from-at i f [] j l = absurd (not-suc-le-zero l)
 from-at i f (x ∷ b) zero l = rw (add-zero i)
 from-at i f (x ∷ b) (suc j) l = let z : suc i + j ≡ i + suc j = omega arith in rw (← z) (from-at (suc i) f b j (le-of-suc-le-suc l))
 
--- ---- each
-
-pub each-length : (f : ℕ → ℕ → ℕ) (b : List ℕ) → length (each f b) ≡ length b
-each-length f b = from-length 0 f b
-
-pub each-same : (f g : ℕ → ℕ → ℕ) (b : List ℕ) → ((j x : ℕ) → f j x ≡ g j x) → each f b ≡ each g b
-each-same f g b h = from-same 0 f g b (λ j x l. h j x)
-
-pub each-keeps : (f : ℕ → ℕ → ℕ) (b : List ℕ) → ((j x : ℕ) → f j x ≡ x) → each f b ≡ b
-each-keeps f b h = from-keeps 0 f b (λ j x l. h j x)
-
-pub each-each : (f g : ℕ → ℕ → ℕ) (b : List ℕ) → each g (each f b) ≡ each (λ j x. g j (f j x)) b
-each-each f g b = from-each 0 f g b
-
 -- a store, past the end too
-pub each-set : (k v : ℕ) (b : List ℕ) → set b k v ≡ each (λ j x. cond (eqb j k) v x) b
+each-set : (k v : ℕ) (b : List ℕ) → set b k v ≡ each (λ j x. cond (eqb j k) v x) b
 each-set k v b = rw zero-add at (from-set 0 k v b)
-
-pub each-at : (f : ℕ → ℕ → ℕ) (b : List ℕ) (j : ℕ) → j < length b → getD (each f b) j 0 ≡ f j (getD b j 0)
-each-at f b j l = rw zero-add at (from-at 0 f b j l)
 
 -- ---- bytes put at the places from a up to e
 
@@ -74,46 +57,42 @@ range-in a e j h = let (p, q) = and-parts (leb a j) (ltb j e) h in (leb-true a j
 
 pub put-length : (a e : ℕ) (f : ℕ → ℕ) (b : List ℕ) → length (bytesPut a e f b) ≡ length b
 unfolding bytesPut
-put-length a e f b = each-length _ b
+put-length a e f b = from-length 0 _ b
 
 pub put-same : (a e : ℕ) (f g : ℕ → ℕ) (b : List ℕ) → ((j : ℕ) → a ≤ j → j < e → f j ≡ g j) → bytesPut a e f b ≡ bytesPut a e g b
 unfolding bytesPut
 put-same a e f g b h =
-    each-same _ _ b (λ j x. cond-same (leb a j && ltb j e) (f j) (g j) x x (λ t. let (l, k) = range-in a e j t in h j l k) (λ t. refl))
+    from-same 0 _ _ b (λ j x _. cond-same (leb a j && ltb j e) (f j) (g j) x x (λ t. let (l, k) = range-in a e j t in h j l k) (λ t. refl))
 
 pub put-none : (a : ℕ) (f : ℕ → ℕ) (b : List ℕ) → bytesPut a a f b ≡ b
 unfolding bytesPut
-put-none a f b = each-keeps _ b (λ j x. go j x (decLt j a))
-  where
-    go : (j x : ℕ) → Dec (j < a) → cond (leb a j && ltb j a) (f j) x ≡ x
-    go j x (yes l) = rw (lt-leb a j l)
-    go j x (no l) = rw (le-ltb j a (omega arith), and-false (leb a j))
+put-none a f b =
+    from-keeps 0 _ b (λ j x _. elim (decLt j a) [ yes l ↦ rw (lt-leb a j l) | no l ↦ rw (le-ltb j a (omega arith), and-false (leb a j)) ])
 
 -- bytes put behind those that were put
 pub put-join : (a s e : ℕ) (f g : ℕ → ℕ) (b : List ℕ) → a ≤ s → s ≤ e → ((j : ℕ) → s ≤ j → j < e → g j ≡ f j)
     → bytesPut s e g (bytesPut a s f b) ≡ bytesPut a e f b
 unfolding bytesPut
-put-join a s e f g b l k h = each-each _ _ b ∙ each-same _ _ b (λ j x. go j x (decLt j s))
-  where
-    go : (j x : ℕ) → Dec (j < s) → cond (leb s j && ltb j e) (g j) (cond (leb a j && ltb j s) (f j) x) ≡ cond (leb a j && ltb j e) (f j) x
-    go j x (yes m) = rw (lt-leb s j m, lt-ltb j s m, lt-ltb j e (omega arith))
-    go j x (no m) =
-        rw (le-leb s j (omega arith), le-ltb j s (omega arith), le-leb a j (omega arith))
-        (cond-same (ltb j e) (g j) (f j) x x (λ t. h j (omega arith) (ltb-true j e t)) (λ t. refl))
+put-join a s e f g b l k h =
+    from-each 0 _ _ b ∙ from-same 0 _ _ b (λ j x _.
+    elim (decLt j s) [
+      | yes m ↦ rw (lt-leb s j m, lt-ltb j s m, lt-ltb j e (omega arith))
+      | no m ↦
+          rw (le-leb s j (omega arith), le-ltb j s (omega arith), le-leb a j (omega arith))
+          (cond-same (ltb j e) (g j) (f j) x x (λ t. h j (omega arith) (ltb-true j e t)) (λ t. refl))
+    ])
 
 pub put-set : (k v : ℕ) (b : List ℕ) → set b k v ≡ bytesPut k (k + 1) (λ _. v) b
 unfolding bytesPut
-put-set k v b = each-set k v b ∙ each-same _ _ b (λ j x. ap (λ (t : Bool). cond t v x) (one j))
-  where
-    one : (j : ℕ) → eqb j k ≡ (leb k j && ltb j (k + 1))
-    one j =
-        same-test (eqb j k) (leb k j && ltb j (k + 1))
-        (λ t. let e = eqb-true j k t in in-range k (k + 1) j (omega arith) (omega arith))
-        (λ t. let (p, q) = range-in k (k + 1) j t in eq-eqb j k (omega arith))
+put-set k v b =
+    each-set k v b ∙ from-same 0 _ _ b (λ j x _. ap (λ (t : Bool). cond t v x)
+    (same-test (eqb j k) (leb k j && ltb j (k + 1))
+    (λ t. let e = eqb-true j k t in in-range k (k + 1) j (omega arith) (omega arith))
+    (λ t. let (p, q) = range-in k (k + 1) j t in eq-eqb j k (omega arith))))
 
 pub put-at : (a e : ℕ) (f : ℕ → ℕ) (b : List ℕ) (j : ℕ) → a ≤ j → j < e → j < length b → getD (bytesPut a e f b) j 0 ≡ f j
 unfolding bytesPut
-put-at a e f b j l k h = each-at _ b j h ∙ rw (in-range a e j l k)
+put-at a e f b j l k h = rw (from-at 0 _ b j h, zero-add, in-range a e j l k)
 
 -- ---- a word
 
@@ -122,20 +101,20 @@ abbrev pub stores : ℕ → List ℕ → ℕ → ℕ → List ℕ
 stores zero b at v = set b at (v % 256)
 stores (suc k) b at v = set (stores k b at v) (at + suc k) (v / 256 ^ suc k % 256)
 
-stored : (k at v : ℕ) (b : List ℕ) → stores k b at v ≡ bytesPut at (at + suc k) (λ j. byteOf (j - at) v) b
+stores-put : (k at v : ℕ) (b : List ℕ) → stores k b at v ≡ bytesPut at (at + suc k) (λ j. byteOf (j - at) v) b
 unfolding byteOf
-stored zero at v b =
+stores-put zero at v b =
     put-set at (v % 256) b
     ∙ put-same at (at + 1) _ _ b (λ j l h. let z : j - at ≡ 0 = omega arith in rw z (omega arith))
-stored (suc k) at v b =
+stores-put (suc k) at v b =
     let z : at + suc (suc k) ≡ at + suc k + 1 = omega arith in
-    rw (stored k at v b, z)
+    rw (stores-put k at v b, z)
     (put-set (at + suc k) (v / 256 ^ suc k % 256) _
     ∙ put-join at (at + suc k) (at + suc k + 1) _ _ b (omega arith) (omega arith) (λ j l h. let y : j - at ≡ suc k = omega arith in rw y))
 
 pub put-word : (w v : ℕ) (b : List ℕ) → stores 7 b (8 * w) v ≡ wordPut w v b
 unfolding wordPut
-put-word w v b = stored 7 (8 * w) v b
+put-word w v b = stores-put 7 (8 * w) v b
 
 pub word-length : (w v : ℕ) (b : List ℕ) → length (wordPut w v b) ≡ length b
 unfolding wordPut
@@ -181,11 +160,11 @@ rowsByte row j = byteOf (j % 8) (getD (row (j / 64)) (j / 8 % 8) 0)
 
 rows-put : (count : ℕ) (row : ℕ → List ℕ) (b : List ℕ) → rowsPut count row b ≡ bytesPut 0 (64 * count) (rowsByte row) b
 unfolding rowsPut bytesPut rowsByte
-rows-put count row b = each-same _ _ b (λ j x. rw (le-leb 0 j (omega arith)))
+rows-put count row b = from-same 0 _ _ b (λ j x _. rw (le-leb 0 j (omega arith)))
 
 pub rows-length : (count : ℕ) (row : ℕ → List ℕ) (b : List ℕ) → length (rowsPut count row b) ≡ length b
 unfolding rowsPut
-rows-length count row b = each-length _ b
+rows-length count row b = from-length 0 _ b
 
 pub rows-none : (row : ℕ → List ℕ) (b : List ℕ) → rowsPut 0 row b ≡ b
 rows-none row b = rows-put 0 row b ∙ put-none 0 (rowsByte row) b

@@ -2,8 +2,8 @@
 -- Assumes nothing.
 use Prim.Native.Nat.{min, max}
 use native.{Mathlib.Nat.{two-pow-succ, add-sub-cancel, zero-mul, one-mul, div-div-eq-div-mul, div-self, eq-zero-or-pos}, Mathlib.Numerals.one-add}
-use lib.{Arith.bin-ind, Bits.{and-comm, and-self, and-zero-r, or-step, and-le-r, or-add-and, and-high}, Pow.{pow-pos, shl-exact}, Seq.take-add}
-use Rattle.rows.{proofs.Kit.{_≡_, refl, sym, ap, _∙_, Bool, true, false, cond, not, _&&_, _||_, false≢true, List, [], _∷_, _++_, _≢_, _↔_, _⊎_, inl, inr, Option, none, some, ℕ, zero, suc, _+_, _-_, _*_, _/_, _%_, _^_, _≤_, _<_, pow-succ', decLt, add-one, arith, bitAnd, bitOr, and-step, eqb, length, take, getD, take-suc, eqb-true, eqb-false, ne-eqb, not-true}, specs.Below.{orLater, firstBelow}, proofs.Bools.{not-both, eqb-same, cond-map}, proofs.BelowLaws.first-none}
+use lib.{Arith.bin-ind, Bits.{and-comm, and-self, and-zero-r, or-step, and-le-r, or-shr, or-add-and, and-high}, Pow.{pow-pos, shl-exact}, Seq.take-add}
+use Rattle.rows.{proofs.Kit.{_≡_, refl, sym, ap, _∙_, Bool, true, false, cond, not, _&&_, _||_, false≢true, List, [], _∷_, _++_, _≢_, _↔_, inl, inr, Option, none, some, ℕ, zero, suc, _+_, _-_, _*_, _/_, _%_, _^_, _≤_, _<_, pow-succ', decLt, add-one, arith, bitAnd, bitOr, and-step, and-shr, eqb, length, take, getD, take-suc, eqb-true, eqb-false, ne-eqb, not-true}, specs.Below.{orLater, firstBelow}, proofs.Bools.{not-both, eqb-same, cond-map}, proofs.BelowLaws.first-none}
 use Rattle.masks.specs.Masks.{shares, matches, isOneBit, hasBit, bitsBelow, firstMask}
 use lib.Count as Count
 
@@ -22,21 +22,6 @@ pub shares-zero-left : (m : ℕ) → shares 0 m ≡ false
 unfolding shares
 shares-zero-left m = refl
 
-or-half : (a b : ℕ) → bitOr a b / 2 ≡ bitOr (a / 2) (b / 2)
-or-half a b = let e = or-step a b in omega arith
-
-or-low : (a b : ℕ) → bitOr a b % 2 ≡ max (a % 2) (b % 2)
-or-low a b = let e = or-step a b in omega arith
-
-and-half : (a b : ℕ) → bitAnd a b / 2 ≡ bitAnd (a / 2) (b / 2)
-and-half a b = let e = and-step a b in omega arith
-
-and-low : (a b : ℕ) → bitAnd a b % 2 ≡ min (a % 2) (b % 2)
-and-low a b = let e = and-step a b in omega arith
-
-min-max : (x y z : ℕ) → min (max x y) z ≡ max (min x z) (min y z)
-min-max x y z = omega arith
-
 and-or : (m a b : ℕ) → bitAnd (bitOr a b) m ≡ bitOr (bitAnd a m) (bitAnd b m)
 and-or = bin-ind (λ (m : ℕ). (a b : ℕ) → bitAnd (bitOr a b) m ≡ bitOr (bitAnd a m) (bitAnd b m)) (λ a b. simp and-zero-r) step
   where
@@ -44,17 +29,14 @@ and-or = bin-ind (λ (m : ℕ). (a b : ℕ) → bitAnd (bitOr a b) m ≡ bitOr (
         → (a b : ℕ) → bitAnd (bitOr a b) m ≡ bitOr (bitAnd a m) (bitAnd b m)
     step m ih a b =
         let high : bitAnd (bitOr a b / 2) (m / 2) ≡ bitOr (bitAnd a m / 2) (bitAnd b m / 2) =
-        cc (or-half a b, ih (a / 2) (b / 2), and-half a m, and-half b m) in
-        let low : min (bitOr a b % 2) (m % 2) ≡ max (bitAnd a m % 2) (bitAnd b m % 2) =
-        cc (or-low a b, and-low a m, and-low b m, min-max (a % 2) (b % 2) (m % 2)) in
+        cc (or-shr a b 1, ih (a / 2) (b / 2), and-shr a m 1, and-shr b m 1) in
+        let low : min (bitOr a b % 2) (m % 2) ≡ max (bitAnd a m % 2) (bitAnd b m % 2) = omega (arith, or-step a b, and-step a m, and-step b m) in
         cc (and-step (bitOr a b) m, or-step (bitAnd a m) (bitAnd b m), high, low)
-
-or-zero : (x y : ℕ) → bitOr x y ≡ 0 → x ≡ 0
-or-zero x y h = omega (arith, or-add-and x y, and-le-r x y)
 
 or-nonzero : (x y : ℕ) → not (eqb (bitOr x y) 0) ≡ (not (eqb x 0) || not (eqb y 0))
 or-nonzero zero y = refl
-or-nonzero (suc x) y = rw (ne-eqb (bitOr (suc x) y) 0 (λ e. let z = or-zero (suc x) y e in omega arith), ne-eqb (suc x) 0 (λ e. omega arith))
+or-nonzero (suc x) y =
+    rw (ne-eqb (bitOr (suc x) y) 0 (λ e. omega (arith, or-add-and (suc x) y, and-le-r (suc x) y)), ne-eqb (suc x) 0 (λ e. omega arith))
 
 pub shares-or : (a b m : ℕ) → shares (bitOr a b) m ≡ (shares a m || shares b m)
 unfolding shares
@@ -76,19 +58,14 @@ match-share = bin-ind (λ (q : ℕ). (m n : ℕ) → q ≢ 0 → bitAnd m q ≡ 
   where
     step : (q : ℕ) → ((m n : ℕ) → q / 2 ≢ 0 → bitAnd m (q / 2) ≡ q / 2 → bitAnd n (q / 2) ≡ q / 2 → bitAnd m n ≢ 0)
         → (m n : ℕ) → q ≢ 0 → bitAnd m q ≡ q → bitAnd n q ≡ q → bitAnd m n ≢ 0
-    step q ih m n k e f = go (eq-zero-or-pos (q / 2))
-      where
-        em : q ≡ bitAnd (m / 2) (q / 2) * 2 + min (m % 2) (q % 2)
-        em = sym e ∙ and-step m q
-
-        en : q ≡ bitAnd (n / 2) (q / 2) * 2 + min (n % 2) (q % 2)
-        en = sym f ∙ and-step n q
-
-        go : (q / 2 ≡ 0) ⊎ (0 < q / 2) → bitAnd m n ≢ 0
-        go (inl z) w = low-bit q m n _ _ (bitAnd (m / 2) (n / 2)) z k em en (sym (and-step m n) ∙ w)
-        go (inr p) w =
-            let h : bitAnd (m / 2) (n / 2) ≢ 0 = ih (m / 2) (n / 2) (omega arith) (half-bits q m _ em) (half-bits q n _ en) in
-            h (zero-half _ _ (sym (and-step m n) ∙ w))
+    step q ih m n k e f w =
+        let em : q ≡ bitAnd (m / 2) (q / 2) * 2 + min (m % 2) (q % 2) = sym e ∙ and-step m q in
+        let en : q ≡ bitAnd (n / 2) (q / 2) * 2 + min (n % 2) (q % 2) = sym f ∙ and-step n q in
+        let zero = sym (and-step m n) ∙ w in
+        elim (eq-zero-or-pos (q / 2)) [
+          | inl z ↦ low-bit q m n _ _ (bitAnd (m / 2) (n / 2)) z k em en zero
+          | inr p ↦ ih (m / 2) (n / 2) (omega arith) (half-bits q m _ em) (half-bits q n _ en) (zero-half _ _ zero)
+        ]
 
 pub matches-shares : (given m n : ℕ) → given ≢ 0 → matches given m ≡ true → matches given n ≡ true → shares m n ≡ true
 unfolding matches
@@ -132,27 +109,21 @@ ones-none = bin-ind (λ (m : ℕ). Count.ones m ≡ 0 → m ≡ 0) (λ _. refl) 
 -- m and m - 1 share no bit: one bit of m is set
 clears : (m : ℕ) → 0 < m → (bitAnd m (m - 1) ≡ 0) ↔ (Count.ones m ≡ 1)
 unfolding Count.ones
-clears = bin-ind (λ (m : ℕ). 0 < m → (bitAnd m (m - 1) ≡ 0) ↔ (Count.ones m ≡ 1)) (λ l. absurd (omega arith)) (λ m half l. go m half l (decLt 0 (m % 2)))
-  where
-    go : (m : ℕ) → (0 < m / 2 → (bitAnd (m / 2) (m / 2 - 1) ≡ 0) ↔ (Count.ones (m / 2) ≡ 1)) → 0 < m → Dec (0 < m % 2)
-        → (bitAnd m (m - 1) ≡ 0) ↔ (Count.ones m ≡ 1)
-    go m half l (yes odd) =
-        let s = and-step m (m - 1) in
-        let o = Count.ones-step m in
-        let e : (m - 1) / 2 ≡ m / 2 = omega arith in
-        let t : bitAnd (m / 2) ((m - 1) / 2) ≡ m / 2 = rw e (and-self (m / 2)) in (
-          λ h. let z : m / 2 ≡ 0 = omega arith in let n : Count.ones (m / 2) ≡ 0 = rw z in omega arith,
-          λ h. let z : m / 2 ≡ 0 = ones-none (m / 2) (omega arith) in omega arith,
-        )
-    go m half l (no even) =
-        let s = and-step m (m - 1) in
-        let o = Count.ones-step m in
-        let e : (m - 1) / 2 ≡ m / 2 - 1 = omega arith in
-        let t : bitAnd (m / 2) ((m - 1) / 2) ≡ bitAnd (m / 2) (m / 2 - 1) = rw e in
-        let f = half (omega arith) in (
-          λ h. let z : Count.ones (m / 2) ≡ 1 = f .0 (omega arith) in omega arith,
-          λ h. let z : bitAnd (m / 2) (m / 2 - 1) ≡ 0 = f .1 (omega arith) in omega arith,
-        )
+clears = bin-ind (λ (m : ℕ). 0 < m → (bitAnd m (m - 1) ≡ 0) ↔ (Count.ones m ≡ 1)) (λ l. absurd (omega arith)) (λ m half l.
+    let s = and-step m (m - 1) in
+    let o = Count.ones-step m in
+    elim (decLt 0 (m % 2)) [
+      | yes odd ↦
+          let e : (m - 1) / 2 ≡ m / 2 = omega arith in
+          let t : bitAnd (m / 2) ((m - 1) / 2) ≡ m / 2 = rw e (and-self (m / 2)) in (
+            λ h. let z : m / 2 ≡ 0 = omega arith in let n : Count.ones (m / 2) ≡ 0 = rw z in omega arith,
+            λ h. let z : m / 2 ≡ 0 = ones-none (m / 2) (omega arith) in omega arith,
+          )
+      | no even ↦
+          let e : (m - 1) / 2 ≡ m / 2 - 1 = omega arith in
+          let t : bitAnd (m / 2) ((m - 1) / 2) ≡ bitAnd (m / 2) (m / 2 - 1) = rw e in
+          let f = half (omega arith) in (λ h. omega (arith, f .0 (omega arith)), λ h. omega (arith, f .1 (omega arith)))
+    ])
 
 pub clears-one-bit : (m : ℕ) → 0 < m → eqb (bitAnd m (m - 1)) 0 ≡ isOneBit m
 unfolding isOneBit
@@ -165,18 +136,12 @@ alone zero m o h =
     let d = has-digit m 0 h in
     let z = ones-none (m / 2) (omega arith) in
     omega arith
-alone (suc k) m o h = go (alone k (m / 2)) (half-bit m k ∙ h) (eq-zero-or-pos (Count.ones (m / 2)))
-  where
-    go : (Count.ones (m / 2) ≡ 1 → hasBit (m / 2) k ≡ true → m / 2 ≡ 2 ^ k) → hasBit (m / 2) k ≡ true
-        → (Count.ones (m / 2) ≡ 0) ⊎ (0 < Count.ones (m / 2)) → m ≡ 2 ^ suc k
-    go half high (inl z) =
-        let e = ones-none (m / 2) z in
-        not-both (shares-zero-left (2 ^ k)) (rw e at high)
-    go half high (inr p) =
-        let s = Count.ones-step m in
-        let e = half (omega arith) high in
-        let t = two-pow-succ k in
-        omega arith
+alone (suc k) m o h =
+    let high = half-bit m k ∙ h in
+    elim (eq-zero-or-pos (Count.ones (m / 2))) [
+      | inl z ↦ let e = ones-none (m / 2) z in not-both (shares-zero-left (2 ^ k)) (rw e at high)
+      | inr p ↦ let s = Count.ones-step m in omega (arith, alone k (m / 2) (omega arith) high, two-pow-succ k)
+    ]
 
 -- a mask of one bit that has bit k is that bit
 pub one-bit-alone : (k m : ℕ) → isOneBit m ≡ true → hasBit m k ≡ true → m ≡ 2 ^ k

@@ -1,4 +1,3 @@
--- `admit_line` meets its contract. Assumes nothing.
 use Rattle.rows.proofs.Kit.{needs}
 use Rattle.admission.proofs.admit_line.Statement.{statement}
 use Rattle.admission.proofs.admit_line.Tie as tie

@@ -1,4 +1,3 @@
--- `verdict` meets its contract. Assumes nothing.
 use Rattle.rows.proofs.Kit.{arith, now, length, lt-ltb, le-ltb, needs}
 use Rattle.admission.specs.Admission.{admitOf}
 use Rattle.admission.proofs.verdict.Statement.{statement}

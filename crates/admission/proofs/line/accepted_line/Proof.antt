@@ -1,4 +1,3 @@
--- `accepted_line` meets its contract. Assumes nothing.
 use Rattle.rows.proofs.Kit.{needs}
 use Rattle.admission.specs.Line.{acceptedLine}
 use Rattle.admission.proofs.line.accepted_line.Statement.{statement}

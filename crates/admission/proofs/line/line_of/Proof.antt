@@ -1,4 +1,3 @@
--- `line_of` meets its contract. Assumes nothing.
 use Rattle.rows.proofs.Kit.{needs}
 use Rattle.admission.specs.Line.{lineOf}
 use Rattle.admission.proofs.line.line_of.Statement.{statement}

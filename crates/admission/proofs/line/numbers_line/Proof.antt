@@ -1,4 +1,3 @@
--- `numbers_line` meets its contract. Assumes nothing.
 use Rattle.rows.proofs.Kit.{arith, needs}
 use Rattle.admission.proofs.line.numbers_line.Statement.{statement}
 use Rattle.admission.proofs.line.numbers_line.Tie as tie

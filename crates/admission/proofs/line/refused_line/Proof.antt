@@ -1,4 +1,3 @@
--- `refused_line` meets its contract. Assumes nothing.
 use Rattle.rows.proofs.Kit.{needs}
 use Rattle.admission.specs.Line.{refusedLine}
 use Rattle.admission.proofs.line.refused_line.Statement.{statement}

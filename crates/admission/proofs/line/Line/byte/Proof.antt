@@ -1,4 +1,3 @@
--- `byte` meets its contract. Assumes nothing.
 use Rattle.rows.proofs.Kit.{_≡_, add-one, arith, length, take-suc-set, needs}
 use Rattle.admission.proofs.line.Line.byte.Statement.{statement}
 use Rattle.admission.proofs.line.Line.byte.Tie as tie

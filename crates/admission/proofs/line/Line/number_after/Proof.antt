@@ -1,4 +1,3 @@
--- `number_after` meets its contract. Assumes nothing.
 use Rattle.rows.proofs.Kit.{arith, needs}
 use Rattle.admission.proofs.{DigitLaws.digits-short, line.Line.number_after.Statement.statement}
 use Rattle.admission.proofs.line.Line.number_after.Tie as tie
