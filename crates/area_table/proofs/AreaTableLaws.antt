@@ -346,69 +346,42 @@ module _ (few links areas states : List ℕ) (f : ℕ → ℕ) (h : HoldsAreas f
       → HoldsAreas few (set (set links p (getD links 1024 0 + 1)) 1024 (getD links 1024 0 + 1)) (set areas (getD links 1024 0 + 1) a)
       (set states (getD links 1024 0 + 1) v) (λ x. cond (eqb x a) v (f x))
   holds-put-new l p e b z room =
+      let sizes = h .sizes in
+      let c = getD links 1024 0 in
+      let links′ = set (set links p (c + 1)) 1024 (c + 1) in
+      let areas′ = set areas (c + 1) a in
+      let states′ = set states (c + 1) v in
+      let place : Child c p = rw e (place-child links areas c (h .counted) a (rw e at b)) in
+      let low = place .low in
+      let link : getD links′ p 0 ≡ c + 1 =
+      getD-set-other (set links p (c + 1)) 1024 p (c + 1) 0 (place .other) ∙ getD-set-same links p (c + 1) 0 (omega arith) in
+      let count : getD links′ 1024 0 ≡ c + 1 = getD-set-same (set links p (c + 1)) 1024 (c + 1) 0 (simp length-set (omega arith)) in
+      let links-other : (i : ℕ) → i ≢ p → i ≢ 1024 → getD links′ i 0 ≡ getD links i 0 =
+      λ i n m. getD-set-other (set links p (c + 1)) 1024 i (c + 1) 0 m ∙ getD-set-other links p i (c + 1) 0 n in
+      let grown : Grown links areas links′ areas′ c p a =
       record {
-        sizes = simp length-set (h .sizes);
-        told = told-large links′ areas′ states′ l new (told-after links areas states links′ areas′ states′ c p a grown refl (λ k m. getD-set-other states (c + 1) k v 0 m));
-        counted = λ i. counted i (ℕ-discrete i p) (ℕ-discrete i 1024);
-        fresh = fresh;
-      }
-    where
-      c : ℕ
-      c = getD links 1024 0
-
-      links′ : List ℕ
-      links′ = set (set links p (c + 1)) 1024 (c + 1)
-
-      areas′ : List ℕ
-      areas′ = set areas (c + 1) a
-
-      states′ : List ℕ
-      states′ = set states (c + 1) v
-
-      place : Child c p
-      place = rw e (place-child links areas c (h .counted) a (rw e at b))
-
-      link : getD links′ p 0 ≡ c + 1
-      link =
-          let sizes = h .sizes in
-          getD-set-other (set links p (c + 1)) 1024 p (c + 1) 0 (place .other) ∙ getD-set-same links p (c + 1) 0 (omega (arith, b))
-
-      count : getD links′ 1024 0 ≡ c + 1
-      count = let sizes = h .sizes in getD-set-same (set links p (c + 1)) 1024 (c + 1) 0 (simp length-set (omega arith))
-
-      links-other : (i : ℕ) → i ≢ p → i ≢ 1024 → getD links′ i 0 ≡ getD links i 0
-      links-other i n m = getD-set-other (set links p (c + 1)) 1024 i (c + 1) 0 m ∙ getD-set-other links p i (c + 1) 0 n
-
-      grown : Grown links areas links′ areas′ c p a
-      grown =
-          let sizes = h .sizes in
-          record {
-            room = room;
-            counted = h .counted;
-            fresh = h .fresh;
-            empty = z;
-            place = place;
-            link = link;
-            area = getD-set-same areas (c + 1) a 0 (omega (arith, room));
-            links-other = links-other;
-            areas-other = λ k m. getD-set-other areas (c + 1) k a 0 m;
-          }
-
-      new : stateAt links′ states′ (placeOf links′ areas′ a) ≡ v
-      new =
-          let sizes = h .sizes in
-          rw (place-new links areas links′ areas′ c p a grown (sym e))
-          (state-node links′ states′ p b (λ e. omega (arith, link)) ∙ rw link (getD-set-same states (c + 1) v 0 (omega (arith, room))))
-
-      counted : (i : ℕ) → Dec (i ≡ p) → Dec (i ≡ 1024) → getD links′ i 0 ≤ getD links′ 1024 0
-      counted i (yes e) _ = rw (e, link, count) (omega arith)
-      counted i (no n) (yes e) = rw e (omega arith)
-      counted i (no n) (no m) = rw (links-other i n m, count) (omega (arith, h .counted i))
-
-      fresh : (i : ℕ) → 1026 + 2 * getD links′ 1024 0 ≤ i → getD links′ i 0 ≡ 0
-      fresh i m =
-          let low = place .low in
-          links-other i (λ e. omega (arith, count)) (λ e. omega (arith, count)) ∙ h .fresh i (omega (arith, count))
+        room = room;
+        counted = h .counted;
+        fresh = h .fresh;
+        empty = z;
+        place = place;
+        link = link;
+        area = getD-set-same areas (c + 1) a 0 (omega arith);
+        links-other = links-other;
+        areas-other = λ k m. getD-set-other areas (c + 1) k a 0 m;
+      } in
+      let new : stateAt links′ states′ (placeOf links′ areas′ a) ≡ v =
+      rw (place-new links areas links′ areas′ c p a grown (sym e))
+      (state-node links′ states′ p b (λ e. omega arith) ∙ rw link (getD-set-same states (c + 1) v 0 (omega arith))) in
+      let other = told-after links areas states links′ areas′ states′ c p a grown refl (λ k m. getD-set-other states (c + 1) k v 0 m) in
+      let more : (i : ℕ) → getD links′ i 0 ≤ getD links′ 1024 0 =
+      λ i. elim (ℕ-discrete i p) [
+        | yes e ↦ rw (e, link, count) (omega arith)
+        | no n ↦ elim (ℕ-discrete i 1024) [ yes e ↦ rw e (omega arith) | no m ↦ rw (links-other i n m, count) (omega (arith, h .counted i)) ]
+      ] in
+      let fresh : (i : ℕ) → 1026 + 2 * getD links′ 1024 0 ≤ i → getD links′ i 0 ≡ 0 =
+      λ i m. links-other i (λ e. omega arith) (λ e. omega arith) ∙ h .fresh i (omega arith) in
+      record { sizes = simp length-set sizes; told = told-large links′ areas′ states′ l new other; counted = more; fresh = fresh }
 
 -- ---- the empty table
 

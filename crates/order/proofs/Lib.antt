@@ -4,6 +4,6 @@ pub mod ReadableToo
 pub mod Lists
 pub mod Answers
 pub mod Theorem
-pub mod Images
+pub mod Pairings
 pub mod Swap
 pub mod Needed

@@ -2,10 +2,10 @@
 -- mask free to move, and with bytes left over. Each by two sheets, the first accepted and the second refused.
 -- Assumes nothing.
 use lib.Count.{ones, onesIn}
-use Rattle.rows.{proofs.Kit.{_≡_, refl, true≢false, List, [], _∷_, _++_, _≢_, ℕ, zero, suc, _+_, _<_, arith, length, take}, specs.Below.{anyBelow, firstBelow, lastBelow, sumBelow}, specs.Paired.Free}
+use Rattle.rows.{proofs.Kit.{_≡_, refl, true≢false, _≢_, ℕ, zero, suc, _+_, _<_, arith}, specs.Below.{anyBelow, firstBelow, lastBelow, sumBelow}}
 use Rattle.le.specs.Le.{leAt}
 use Rattle.igvm_defs.{specs.Refusals.{refusal, isFault, isRefusal, inRow, orElse, firstFault}, specs.Kinds.{spans, kindOf, fields, lengthOk}, specs.Platforms.{platformTypes, isPlatformType, platformTypeOf}, proofs.Runs._⨾_}
-use Rattle.sheet.{specs.Head.{limits, headOf, rowCount, layoutOk, withinLimits, startFault, revisionOf, pageSizeFault}, specs.Table.{rowKind, rowLength, offsetOf, bodyOf}, specs.Read.{listAt, codesOk, rowFault, endFault, rowsRefusal, readRefusal, Readable, sheetRefusal}}
+use Rattle.sheet.{specs.Head.{limits, headOf, layoutOk, withinLimits, startFault, revisionOf, pageSizeFault}, specs.Table.{rowKind, rowLength, offsetOf, bodyOf}, specs.Read.{listAt, codesOk, rowFault, endFault, rowsRefusal, readRefusal, sheetRefusal}}
 use Rattle.platform_header.specs.Platforms.{platformOf}
 use Rattle.initialization_header.specs.Initializations.{initializationOf}
 use Rattle.directive_header.specs.Directives.{directiveOf}
@@ -14,39 +14,8 @@ use Rattle.addresses.specs.Addresses.{isMultiple}
 use Rattle.rules.{specs.Regions.regionPasses, specs.Platforms.{validatePlatform, sameType, platformFault, lastIsCca}, specs.Initializations.{bitWithoutCca, initializationFault}, specs.Directives.{wrongArch, allocates, inserts, isAllocated, badArea, directiveFault}, specs.Verdict.{noPlatform, noMatchingVpContext, platformsRefusal, initializationsRefusal, directivesRefusal, headersRefusal}}
 use Rattle.sheet_headers.specs.Headers.{sheetHeaders}
 use Rattle.answers.{proofs.AnswerLaws.accepted-readable, specs.Verdict.verdictRefusal}
-use Rattle.order.specs.{Reordered.{PairedRows, OneMask, OneArea, Reordered}, Demand.Accepted}
-use Rattle.order.proofs.{Images.{alike, sheetOf, platform, ccaPolicy, parameterArea, vpCount, parameterInsert, swap, unmoved, exchanged}, Theorem.demand-3}
-
--- ---- the sheets
-
--- the area before its parameter, and after it
-unfoldable pub areaFirst : List ℕ
-areaFirst = sheetOf (platform 1 6 ∷ []) [] (parameterArea (1 ∷ 2 ∷ 3 ∷ []) ∷ vpCount ∷ [])
-
-unfoldable pub areaLast : List ℕ
-areaLast = sheetOf (platform 1 6 ∷ []) [] (vpCount ∷ parameterArea (1 ∷ 2 ∷ 3 ∷ []) ∷ [])
-
--- the area before its insert, and after it
-unfoldable pub insertLast : List ℕ
-insertLast = sheetOf (platform 1 6 ∷ []) [] (parameterArea (1 ∷ 2 ∷ 3 ∷ []) ∷ parameterInsert ∷ [])
-
-unfoldable pub insertFirst : List ℕ
-insertFirst = sheetOf (platform 1 6 ∷ []) [] (parameterInsert ∷ parameterArea (1 ∷ 2 ∷ 3 ∷ []) ∷ [])
-
--- the last platform of mask 1 is CCA, and the first is
-unfoldable pub ccaLast : List ℕ
-ccaLast = sheetOf (platform 1 1 ∷ platform 1 6 ∷ []) (ccaPolicy (1 ∷ 2 ∷ []) ∷ []) []
-
-unfoldable pub ccaFirst : List ℕ
-ccaFirst = sheetOf (platform 1 6 ∷ platform 1 1 ∷ []) (ccaPolicy (1 ∷ 2 ∷ []) ∷ []) []
-
--- no byte left over, and one
-unfoldable pub plain : List ℕ
-plain = sheetOf (platform 1 6 ∷ []) [] []
-
-unfoldable pub longer : List ℕ
-unfolding plain
-longer = plain ++ 0 ∷ []
+use Rattle.order.specs.{Sheets.{areaFirst, areaLast, insertLast, insertFirst, ccaLast, ccaFirst, plain, longer}, Weakened.{Statement, Whole, AnyEnd, NoneTied, OneAreaNotInserted}, Reordered.{OneMask, OneArea, Reordered}, Demand.Accepted}
+use Rattle.order.proofs.{Pairings.{alike, swap, unmoved, exchanged}, Theorem.demand-3}
 
 verdicts :
     (Accepted limits areaFirst)
@@ -65,28 +34,6 @@ unfolding
     wrongArch allocates inserts isAllocated badArea directiveFault noPlatform noMatchingVpContext platformsRefusal initializationsRefusal
     directivesRefusal headersRefusal sheetHeaders verdictRefusal
 verdicts = (refl, refl, refl, refl, refl, refl, refl, refl)
-
--- ---- the statement, by what it asks of b's end and which rows it ties
-abbrev pub Statement : (List ℕ → Type 0) → (List ℕ → ℕ → ℕ → Type 0) → (List ℕ → ℕ → ℕ → Type 0) → Type 0
-Statement End TiedPlatforms TiedDirectives =
-    (a b : List ℕ) → Readable limits a → take 16 b ≡ take 16 a → End b → PairedRows a b (TiedPlatforms a) 0 (headOf a .platforms)
-    → PairedRows a b Free (headOf a .platforms) (headOf a .initializations)
-    → PairedRows a b (TiedDirectives a) (headOf a .platforms + headOf a .initializations) (headOf a .directives)
-    → Accepted limits a → Accepted limits b
-
--- no byte left over
-abbrev pub Whole : List ℕ → Type 0
-Whole s = offsetOf s (rowCount (headOf s)) ≡ length s
-
-abbrev pub AnyEnd : List ℕ → Type 0
-AnyEnd s = Unit
-
-abbrev pub NoneTied : List ℕ → ℕ → ℕ → Type 0
-NoneTied s = Free
-
--- directive rows naming one area, none of which is an insert
-abbrev pub OneAreaNotInserted : List ℕ → ℕ → ℕ → Type 0
-OneAreaNotInserted s k m = (rowKind s k ≢ 50) × (rowKind s m ≢ 50) × OneArea s k m
 
 -- with all of its conditions it is a part of demand 3
 pub all-asked : Statement Whole OneMask OneArea

@@ -1,7 +1,7 @@
 -- A reordering that is not the identity, on bytes: the first two rows of each list are exchanged, and page, initial and opaque bytes are changed.
 -- Assumes nothing.
 use lib.Count.{ones, onesIn}
-use Rattle.rows.{proofs.Kit.{_≡_, refl, false, false≢true, List, [], _∷_, ℕ, zero, suc, _+_, _*_, _/_, _<_, arith, length}, specs.Below.{anyBelow, firstBelow, lastBelow, sumBelow}}
+use Rattle.rows.{proofs.Kit.{_≡_, refl, false, false≢true, List, ℕ, zero, suc, _+_, _*_, _/_, _<_, arith, length}, specs.Below.{anyBelow, firstBelow, lastBelow, sumBelow}}
 use Rattle.le.specs.Le.{leAt}
 use Rattle.igvm_defs.{specs.Refusals.{isFault, isRefusal, inRow, orElse, firstFault}, specs.Kinds.{spans, kindOf, fields, lengthOk}, specs.Platforms.{platformTypes, isPlatformType, platformTypeOf}, specs.Vtls.vtlOf, proofs.Runs._⨾_}
 use Rattle.sheet.{specs.Head.{limits, headOf, layoutOk, withinLimits, startFault, revisionOf, pageSizeFault}, specs.Table.{rowKind, rowLength, offsetOf, bodyOf}, specs.Read.{listAt, codesOk, rowFault, endFault, rowsRefusal, readRefusal, sheetRefusal}}
@@ -13,20 +13,8 @@ use Rattle.addresses.specs.Addresses.{isMultiple, meets, endsBeyond}
 use Rattle.rules.{specs.Regions.{regionPasses, tablesShare, overlap}, specs.Platforms.{validatePlatform, sameType, platformFault, lastIsCca}, specs.Initializations.{validateRegion, validateTable, bitWithoutCca, initializationFault}, specs.Directives.{wrongArch, allocates, inserts, isAllocated, badArea, directiveFault, noContext}, specs.Verdict.{noPlatform, noMatchingVpContext, platformsRefusal, initializationsRefusal, directivesRefusal, headersRefusal}}
 use Rattle.sheet_headers.specs.Headers.{sheetHeaders}
 use Rattle.answers.{proofs.AnswerLaws.accepted-readable, specs.Verdict.verdictRefusal, specs.Relocations.{relocationsOf, wordsAfter}}
-use Rattle.order.specs.{Reordered.{OneMask, OneArea, Reordered}, Demand.{Accepted, SameAnswers}}
-use Rattle.order.proofs.{Images.{alike, sheetOf, platform, ccaPolicy, region, pageTable, pageData, parameterArea, vpCount, aarch64Vbs, swap, exchanged}, Theorem.demand-3}
-
-unfoldable pub sheetA : List ℕ
-sheetA =
-    sheetOf (platform 1 6 ∷ platform 2 1 ∷ [])
-    (region 0x100000 ∷ region 0x102000 ∷ pageTable 0x104000 ∷ ccaPolicy (1 ∷ 2 ∷ []) ∷ [])
-    (aarch64Vbs (170 ∷ 187 ∷ []) ∷ parameterArea (1 ∷ 2 ∷ 3 ∷ []) ∷ vpCount ∷ pageData (4 ∷ 5 ∷ []) ∷ [])
-
-unfoldable pub sheetB : List ℕ
-sheetB =
-    sheetOf (platform 2 1 ∷ platform 1 6 ∷ [])
-    (region 0x102000 ∷ region 0x100000 ∷ pageTable 0x104000 ∷ ccaPolicy (3 ∷ 4 ∷ []) ∷ [])
-    (parameterArea (9 ∷ 8 ∷ 7 ∷ []) ∷ aarch64Vbs (5 ∷ 6 ∷ []) ∷ vpCount ∷ pageData (6 ∷ 7 ∷ []) ∷ [])
+use Rattle.order.specs.{Sheets.{sheetA, sheetB}, Reordered.{OneMask, OneArea, Reordered}, Demand.{Accepted, SameAnswers}}
+use Rattle.order.proofs.{Pairings.{alike, swap, exchanged}, Theorem.demand-3}
 
 pub reordered : Reordered sheetA sheetB
 unfolding sheetA sheetB headOf rowKind rowLength offsetOf bodyOf kindOf spans fields leAt sumBelow areaNamed

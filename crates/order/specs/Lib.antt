@@ -1,2 +1,4 @@
 pub mod Reordered
 pub mod Demand
+pub mod Sheets
+pub mod Weakened
