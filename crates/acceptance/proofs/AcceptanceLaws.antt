@@ -2,7 +2,7 @@
 -- Assumes nothing.
 use Rattle.rows.{proofs.Kit.{ℕ, _+_, _-_, _≤_, _<_, arith, _≡_, ap, _∙_, Bool, false, List, [], _∷_, length, le-ltb}, specs.Below.anyBelow, specs.Rows.Rows, proofs.BelowLaws.none-any}
 use Rattle.igvm_defs.{specs.Refusals.{fault, noFault, refuse, isFault, isRefusal}, proofs.RefusalLaws.{no-fault, row-refusal}}
-use Rattle.sheet.{specs.declared.Cursor.Cursor, specs.Head.{limits, headOf, rowCount, bodiesAt, startFault}, specs.Table.offsetOf, specs.Read.{endFault, rowsRefusal}, specs.Walk.ReadTo, proofs.Readable.start-says, proofs.ReadLaws.rows-end}
+use Rattle.sheet.{specs.declared.Cursor.Cursor, specs.Head.{limits, headOf, rowCount, bodiesAt, startFault, firstDirective}, specs.Table.offsetOf, specs.Read.{endFault, rowsRefusal}, specs.Walk.ReadTo, proofs.Readable.start-says, proofs.ReadLaws.rows-end}
 use Rattle.initialization_header.specs.declared.IgvmInitializationHeader.{IgvmInitializationHeader}
 use Rattle.rules.{specs.Regions.tableHolds, specs.Verdict.{platformFaults, initializationFaults, platformsRefusal, directivesRefusal}, proofs.Acceptance.{platforms-say, initializations-say, headers-say}}
 use Rattle.contexts.specs.Contexts.{anyLacks}
@@ -13,7 +13,7 @@ use Rattle.sheet_headers.{specs.Headers.sheetHeaders, proofs.HeaderLaws.sheet-c
 use Rattle.directive_pass.proofs.DirectivePass.{directives-end}
 use Rattle.platform_accept.specs.Accepted.{PlatformsAccepted, HoldsCca}
 use Rattle.initialization_accept.specs.Accepted.{InitializationsAccepted}
-use Rattle.directive_accept.specs.Accepted.{firstDirective, DirectivesAccepted}
+use Rattle.directive_accept.specs.Accepted.{DirectivesAccepted}
 use Rattle.acceptance.specs.Accepted.{RowsAccepted, ListsAccepted}
 
 -- the table lies in the sheet

@@ -7,11 +7,11 @@ ghost use Prim.Native.Nat.{ℕ, _+_, _≤_};
 ghost use lib.ListN.{length};
 ghost use Rattle.igvm_defs.specs.Refusals.{isFault};
 ghost use Rattle.igvm_defs.specs.Revision.{isX64};
-ghost use Rattle.sheet.specs.Head.{limits, headOf, rowCount, startFault};
+ghost use Rattle.sheet.specs.Head.{limits, headOf, firstDirective, rowCount, startFault};
 ghost use Rattle.sheet.specs.Walk.{ReadTo};
 ghost use Rattle.sheet_headers.specs.Headers.{sheetHeaders};
 ghost use Rattle.initialization_check.specs.Record.{regionsIn, HoldsRows};
-ghost use Rattle.directive_accept.specs.Accepted.{firstDirective, DirectivesAccepted};
+ghost use Rattle.directive_accept.specs.Accepted.{DirectivesAccepted};
 ghost use Rattle.acceptance.specs.Accepted.{RowsAccepted, ListsAccepted};
 use sheet::Cursor;
 

@@ -2,7 +2,7 @@
 -- Assumes nothing.
 use Rattle.rows.{proofs.Kit.{ℕ, _+_, _-_, _≤_, _<_, arith, _≡_, refl, sym, ap, _∙_, Bool, true, false, _&&_, _||_, or-false, none, List, [], eqb, length, take, drop, eqb-false}, specs.Rows.{Rows, any, before}, proofs.Bools.or-false-parts, proofs.BelowLaws.any-more}
 use Rattle.igvm_defs.{specs.declared.Arch.Arch, specs.Kinds.{kindOf, directiveList}, specs.Refusals.isFault}
-use Rattle.sheet.{specs.declared.Cursor.Cursor, specs.Head.{headOf, rowCount}, specs.Table.{rowKind, rowLength, bodyOf, offsetOf}, specs.Walk.ReadTo, proofs.Readable.{RowOk, directive-list, body-length}, proofs.ReadLaws.read-more}
+use Rattle.sheet.{specs.declared.Cursor.Cursor, specs.Head.{headOf, rowCount, firstDirective}, specs.Table.{rowKind, rowLength, bodyOf, offsetOf}, specs.Walk.ReadTo, proofs.Readable.{RowOk, directive-list, body-length}, proofs.ReadLaws.read-more}
 use Rattle.initialization_header.specs.declared.IgvmInitializationHeader.{IgvmInitializationHeader}
 use Rattle.directive_header.{specs.declared.IgvmDirectiveHeader.IgvmDirectiveHeader, specs.Directives.directiveOf, specs.Fields.{kindNumber, areaOf, isParameter}, proofs.DirectiveLaws.{kind-directive, area-directive}}
 use Rattle.rules.{specs.Directives.{allocates, inserts, badArea, insideTable}, specs.Verdict.directiveFaults, proofs.Acceptance.{directive-says, inside-table}}
@@ -10,7 +10,7 @@ use Rattle.directive_check.{specs.Record.namesArea, proofs.DirectiveRecordLaws.
 use Rattle.sheet_headers.specs.Headers.{sheetHeaders}
 use Rattle.directive_body.specs.Sound.{Sound}
 use Rattle.directive_row.{specs.Row.{ContextsNext, PlainRow, stateOf, stateAfter}, proofs.PlainLaws.page-plain}
-use Rattle.directive_accept.specs.Accepted.{firstDirective, DirectivesAccepted, stateBefore, Onward, PlainPassed}
+use Rattle.directive_accept.specs.Accepted.{DirectivesAccepted, stateBefore, Onward, PlainPassed}
 
 -- ---- a row that names no area
 

@@ -1,5 +1,5 @@
 -- How far the directive rows of a byte string are in order, and what the rows passed tell.
-use Prim.Native.Nat.{ℕ, _+_, _-_, _≤_}
+use Prim.Native.Nat.{ℕ, _-_, _≤_}
 use mathlib.Core.Bool.{false}
 use mathlib.Core.List.{List}
 use mathlib.Core.Path.{_≡_}
@@ -8,17 +8,13 @@ use Rattle.rows.specs.Below.{anyBelow}
 use Rattle.rows.specs.Rows.{before}
 use Rattle.igvm_defs.specs.Refusals.{isFault}
 use Rattle.sheet.specs.declared.Cursor.{Cursor}
-use Rattle.sheet.specs.Head.{headOf}
+use Rattle.sheet.specs.Head.{firstDirective}
 use Rattle.sheet.specs.Walk.{ReadTo}
 use Rattle.sheet_headers.specs.Headers.{sheetHeaders}
 use Rattle.rules.specs.Verdict.{directiveFaults}
 use Rattle.directive_check.specs.Record.{HoldsContexts}
 use Rattle.area_table.specs.AreaTable.{HoldsAreas}
 use Rattle.directive_row.specs.Row.{stateOf}
-
--- how many rows stand before the directive rows
-abbrev pub firstDirective : List ℕ → ℕ
-firstDirective s = headOf s .platforms + headOf s .initializations
 
 -- no directive row before the cursor's has a fault, of reading or by the rules, and the masks are those of the contexts among these rows
 pub record DirectivesAccepted (s : List ℕ) (c : Cursor) (contexts : List ℕ) : Type 0 where

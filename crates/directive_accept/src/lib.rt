@@ -5,12 +5,12 @@ ghost use mathlib.Core.List.{[], _∷_};
 ghost use Prim.Native.Nat.{_≤_};
 ghost use lib.ListN.{length};
 ghost use Rattle.igvm_defs.specs.Revision.{isX64};
-ghost use Rattle.sheet.specs.Head.{headOf, rowCount, bodiesAt};
+ghost use Rattle.sheet.specs.Head.{headOf, firstDirective, rowCount, bodiesAt};
 ghost use Rattle.sheet.specs.Walk.{ReadTo};
 ghost use Rattle.sheet_headers.specs.Headers.{sheetHeaders};
 ghost use Rattle.area_table.specs.AreaTable.{HoldsAreas};
 ghost use Rattle.clashes.specs.Clashes.{HoldsTables};
-ghost use Rattle.directive_accept.specs.Accepted.{firstDirective, DirectivesAccepted, Onward, PlainPassed, AreasPassed, PlainAccepted, NamedAccepted, stateBefore};
+ghost use Rattle.directive_accept.specs.Accepted.{DirectivesAccepted, Onward, PlainPassed, AreasPassed, PlainAccepted, NamedAccepted, stateBefore};
 use sheet::Cursor;
 
 // ---- the rows

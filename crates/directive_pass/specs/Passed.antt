@@ -1,18 +1,13 @@
 -- What the pass over the directive rows answers, of a readable sheet.
-use Prim.Native.Nat.{ℕ, _+_}
+use Prim.Native.Nat.{ℕ}
 use mathlib.Core.Bool.{false}
 use mathlib.Core.List.{List}
 use mathlib.Core.Path.{_≡_}
 use Rattle.igvm_defs.specs.declared.Refusal.{Refusal}
 use Rattle.igvm_defs.specs.Refusals.{isRefusal}
-use Rattle.sheet.specs.Head.{headOf}
 use Rattle.sheet_headers.specs.Headers.{sheetHeaders}
 use Rattle.rules.specs.Verdict.{directivesRefusal}
 use Rattle.directive_check.specs.Record.{HoldsContexts}
-
--- how many rows stand before the directive rows
-abbrev pub firstDirective : List ℕ → ℕ
-firstDirective s = headOf s .platforms + headOf s .initializations
 
 -- the directive rows' refusal; where there is none, the masks hold their contexts
 pub record DirectivesPassed (s : List ℕ) (refusal : Refusal) (contexts : List ℕ) : Type 0 where

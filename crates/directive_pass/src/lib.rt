@@ -4,7 +4,7 @@ ghost use mathlib.Core.Bool.{false};
 ghost use Prim.Native.Nat.{_+_, _-_, _<_, _≤_};
 ghost use Rattle.rows.specs.Below.{anyBelow};
 ghost use Rattle.igvm_defs.specs.Refusals.{isFault};
-ghost use Rattle.sheet.specs.Head.{limits, headOf, rowCount};
+ghost use Rattle.sheet.specs.Head.{limits, headOf, firstDirective, rowCount};
 ghost use Rattle.sheet.specs.Read.{Readable};
 ghost use Rattle.sheet.specs.Walk.{cursorAt};
 ghost use Rattle.sheet_headers.specs.Headers.{sheetHeaders};
@@ -15,7 +15,7 @@ ghost use Rattle.rules.specs.Verdict.{directiveFaults};
 ghost use Rattle.initialization_check.specs.Record.{anyRegion, HoldsRegions};
 ghost use Rattle.directive_check.specs.Record.{HoldsContexts, lacksContext};
 ghost use Rattle.clashes.specs.Clashes.{HoldsTables};
-ghost use Rattle.directive_pass.specs.Passed.{firstDirective, DirectivesPassed};
+ghost use Rattle.directive_pass.specs.Passed.{DirectivesPassed};
 use directive_header::IgvmDirectiveHeader;
 use igvm_defs::Fault;
 use igvm_defs::Refusal;
@@ -37,7 +37,7 @@ fn known_area(s: &[u8], head: SheetHead, n: usize, area: u32) -> KnownArea
     requires { ⌜ Readable limits (now s) × (head ≡ headOf (now s)) × (n ≤ headOf (now s) .directives) ⌝ }
     ensures { λ r. ⌜ (r .allocated ≡ any (allocates area) (before n (sheetHeaders (now (s .entry)) .directives))) × (r .inserted ≡ any (inserts area) (before n (sheetHeaders (now (s .entry)) .directives))) ⌝ }
 {
-    let mut c = sheet::cursor_at(
+    let mut c = sheet_reader::cursor_at(
         s,
         (head.platforms as usize) + (head.initializations as usize),
     );
@@ -45,11 +45,12 @@ fn known_area(s: &[u8], head: SheetHead, n: usize, area: u32) -> KnownArea
     let mut inserted = false;
     let mut i = 0;
     while i < n {
-        let name = directive_check::naming(c.kind(s), c.body(s));
+        let row = sheet_reader::cursor_row(s, c);
+        let name = directive_check::naming(row.kind, sheet_reader::cursor_body(s, c));
         let same = area == name.area;
         allocated = allocated | ((name.how == 0) & same);
         inserted = inserted | ((name.how == 2) & same);
-        c = c.next(s);
+        c = row.next;
         i += 1;
     }
     KnownArea {
@@ -63,7 +64,8 @@ fn bad_area(s: &[u8], head: SheetHead, c: Cursor, i: usize) -> bool
     requires { ⌜ Readable limits (now s) × (head ≡ headOf (now s)) × (i < headOf (now s) .directives) × (c ≡ cursorAt (now s) (firstDirective (now s) + i)) ⌝ }
     ensures { λ r. ⌜ r ≡ badArea (before i (sheetHeaders (now (s .entry)) .directives)) (sheetHeaders (now (s .entry)) .directives .row i) ⌝ }
 {
-    let name = directive_check::naming(c.kind(s), c.body(s));
+    let row = sheet_reader::cursor_row(s, c);
+    let name = directive_check::naming(row.kind, sheet_reader::cursor_body(s, c));
     if name.how == 3 {
         return false;
     }
@@ -150,7 +152,8 @@ pub fn validate_directive_headers(
     let mut i = from.row - first;
     while i < n {
         let bad = bad_area(s, head, c, i);
-        let h = sheet_headers::directive_at(s, c);
+        let row = sheet_headers::directive_at(s, c);
+        let h = row.header;
         let inside = inside_table(
             &regions.mask,
             &regions.gpa,
@@ -169,7 +172,7 @@ pub fn validate_directive_headers(
                 contexts,
             };
         }
-        c = c.next(s);
+        c = row.next;
         i += 1;
     }
     let refusal = igvm_defs::refuse(

@@ -1,12 +1,12 @@
 -- The loop over the initialization rows of a readable sheet: what holds at its head, and how a row's region leads to the next turn.
 -- Assumes nothing.
 use Rattle.rows.{proofs.Kit.{_≡_, sym, _∙_, Bool, cond, List, none, some, ℕ, _+_, _≤_, _<_, add-zero, add-assoc, arith, length, set}, specs.Rows.before}
-use Rattle.igvm_defs.specs.Kinds.{kindOf, initializationList}
-use Rattle.sheet.{specs.declared.Cursor.Cursor, specs.Head.{limits, headOf}, specs.Table.{rowKind, bodyOf}, specs.Read.Readable, specs.Walk.{cursorAt, AtRow}, proofs.Readable.{readable-bounds, at-row, initialization-row}}
+use Rattle.igvm_defs.specs.Kinds.{initializationList}
+use Rattle.sheet.{specs.declared.Cursor.Cursor, specs.Head.{limits, headOf}, specs.Table.{rowKind, bodyOf}, specs.Read.Readable, specs.Walk.cursorAt, proofs.Readable.readable-bounds}
 use Rattle.initialization_header.{specs.declared.IgvmInitializationHeader.IgvmInitializationHeader, specs.Initializations.initializationOf}
 use Rattle.rules.{specs.declared.Region.Region, specs.Regions.regionOf}
 use Rattle.initialization_check.{specs.declared.RelocRegions.RelocRegions, specs.Record.{HoldsRegions, HoldsRows, stored}, proofs.RecordLaws.{Room, Lent, lent-stored, holds-none, rows-none, holds-stored, rows-stored}}
-use Rattle.sheet_headers.{specs.Headers.sheetHeaders, proofs.HeaderLaws.sheet-counts}
+use Rattle.sheet_headers.{specs.Headers.sheetHeaders, proofs.HeaderLaws.sheet-counts, proofs.ListLaws.{AtList, at-initialization, initialization-header}}
 
 -- at the head of the loop: the cursor stands at row i of n initialization rows, which follow `first` others, and the record has the regions of the rows
 -- before it, each with its row
@@ -38,12 +38,8 @@ reached-none s first n held numbers c readable first-row rows at lent empty =
 
 module _ {s : List ℕ} {first n : ℕ} {was : RelocRegions} {wasNumbers : List ℕ} {held : RelocRegions} {numbers : List ℕ} {c : Cursor} {i : ℕ}
     (r : Reached s first n was wasNumbers held numbers c i) where
-  pub row-known : i < n → AtRow s c × (kindOf (rowKind s (c .row)) .list ≡ initializationList)
-  row-known l =
-      let e = r .rows in
-      let d = r .first-row in
-      rw (r .at)
-      (at-row limits s (r .readable) (first + i) (omega arith), initialization-row limits s (r .readable) (first + i) (omega arith) (omega arith))
+  pub row-known : i < n → AtList s initializationList c
+  row-known l = at-initialization s (r .readable) c i (rw (r .first-row) at (r .at)) (rw (← r .rows) l)
 
   -- the arrays have room for the row's region, and the row's number is small
   pub row-room : i < n
@@ -56,10 +52,6 @@ module _ {s : List ℕ} {first n : ℕ} {was : RelocRegions} {wasNumbers : List 
       let lent = r .lent in
       omega arith
 
-  row-header : sheetHeaders s .initializations .row i ≡ initializationOf (rowKind s (c .row)) (bodyOf s (c .row))
-  unfolding sheetHeaders
-  row-header = rw (r .at, r .first-row)
-
   -- the row passed, with its region
   pub reached-next : (d : Cursor) (h : IgvmInitializationHeader) (found : Bool) (new : Region) → i < n → h ≡ initializationOf (rowKind s (c .row)) (bodyOf s (c .row))
       → regionOf h ≡ cond found (some new) none → d ≡ cursorAt s (c .row + 1)
@@ -67,7 +59,7 @@ module _ {s : List ℕ} {first n : ℕ} {was : RelocRegions} {wasNumbers : List 
   reached-next d h found new l e region next =
       let xs = sheetHeaders s .initializations in
       let (small, count, room, number) = row-room l in
-      let of : regionOf (xs .row i) ≡ cond found (some new) none = rw (row-header, ← e) region in
+      let of : regionOf (xs .row i) ≡ cond found (some new) none = rw (← initialization-header s (c .row) i (rw (r .at, r .first-row)), ← e) region in
       record {
         readable = r .readable;
         first-row = r .first-row;

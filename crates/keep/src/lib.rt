@@ -28,11 +28,13 @@ pub fn keep_regions<'a>(
 {
     let first = head.platforms as usize;
     let count = head.initializations as usize;
-    let mut c = sheet::cursor_at(s, first);
+    let mut c = sheet_reader::cursor_at(s, first);
     let mut n = 0;
     let mut i = 0;
     while i < count {
-        let f = initialization_check::region_of(sheet_headers::initialization_at(s, c));
+        let row = sheet_headers::initialization_at(s, c);
+        let h = row.header;
+        let f = initialization_check::region_of(h);
         let r = f.region;
         masks[n] = r.mask;
         gpas[n] = r.gpa;
@@ -42,7 +44,7 @@ pub fn keep_regions<'a>(
         tables[n] = r.page_table;
         rows[n] = (first + i + 1) as u16;
         n += f.found as usize;
-        c = c.next(s);
+        c = row.next;
         i += 1;
     }
     n

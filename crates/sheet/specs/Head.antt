@@ -41,6 +41,10 @@ headOf s =
 abbrev pub rowCount : SheetHead → ℕ
 rowCount h = h .platforms + h .initializations + h .directives
 
+-- how many rows stand before the directive rows
+abbrev pub firstDirective : List ℕ → ℕ
+firstDirective s = headOf s .platforms + headOf s .initializations
+
 -- where the table of contents ends and the bodies begin
 abbrev pub bodiesAt : SheetHead → ℕ
 bodiesAt h = 16 + 8 * rowCount h

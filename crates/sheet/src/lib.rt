@@ -1,11 +1,9 @@
-// The head and the table of contents of a sheet: refusals 1, 2, 3 and 7, and a cursor over the rows. The rows themselves are read in `reading`.
+// The head of a sheet, refusals 1, 2, 3 and 7, and its table of contents; a cursor, which is a place among the rows.
 ghost use mathlib.Core.Path.{_≡_};
 ghost use Prim.Native.Nat.{_+_, _*_, _≤_, _<_};
 ghost use lib.ListN.{length, take, drop};
 ghost use Rattle.sheet.specs.Head.{limits, headOf, rowCount, layoutOk, withinLimits, startFault, revisionOf, pageSizeFault};
-ghost use Rattle.sheet.specs.Table.{rowKind, rowLength, bodyOf};
-ghost use Rattle.sheet.specs.Read.{Readable};
-ghost use Rattle.sheet.specs.Walk.{cursorAt, AtRow};
+ghost use Rattle.sheet.specs.Table.{rowKind, rowLength};
 use igvm_defs::Arch;
 use igvm_defs::Fault;
 use igvm_defs::IgvmRevision;
@@ -169,45 +167,4 @@ impl Cursor {
             at: 16 + 8 * n,
         }
     }
-
-    pub fn kind(self, s: &[u8]) -> u32
-        requires { ⌜ AtRow (now s) self ⌝ }
-        ensures { λ r. ⌜ r ≡ rowKind (now (s .entry)) (self .row) ⌝ }
-    {
-        kind_at(s, self.row)
-    }
-
-    // The body of the row reached, a part of the sheet.
-    pub fn body(self, s: &[u8]) -> &[u8]
-        requires { ⌜ AtRow (now s) self ⌝ }
-        ensures { λ r. ⌜ now r ≡ bodyOf (now (s .entry)) (self .row) ⌝ }
-    {
-        part(s, self.at, length_at(s, self.row))
-    }
-
-    pub fn next(self, s: &[u8]) -> Cursor
-        requires { ⌜ AtRow (now s) self ⌝ }
-        ensures { λ r. ⌜ r ≡ cursorAt (now (s .entry)) (self .row + 1) ⌝ }
-    {
-        let row = self.row;
-        Cursor {
-            row: row + 1,
-            at: self.at + length_at(s, row),
-        }
-    }
-}
-
-// The cursor at row k of a readable sheet, or behind its last row.
-pub fn cursor_at(s: &[u8], k: usize) -> Cursor
-    requires { ⌜ Readable limits (now s) × (k ≤ rowCount (headOf (now s))) ⌝ }
-    ensures { λ r. ⌜ r ≡ cursorAt (now (s .entry)) k ⌝ }
-{
-    let h = SheetHead::new(s);
-    let mut c = Cursor::new(h.rows());
-    let mut i = 0;
-    while i < k {
-        c = c.next(s);
-        i += 1;
-    }
-    c
 }

@@ -16,8 +16,8 @@ unfoldable pub inSheet : List ℕ → ℕ → ℕ → Bool
 inSheet s row at = leb (24 + 8 * row) (length s) && leb (at + rowLength s row) (length s)
 
 -- kind and body length; both 0 where there is no row
-unfoldable pub rowAt : List ℕ → ℕ → ℕ → SheetRow
-rowAt s row at = cond (inSheet s row at) (record { kind = rowKind s row; length = rowLength s row }) (record { kind = 0; length = 0 })
+unfoldable pub readAt : List ℕ → ℕ → ℕ → SheetRow
+readAt s row at = cond (inSheet s row at) (record { kind = rowKind s row; length = rowLength s row }) (record { kind = 0; length = 0 })
 
 -- the body's part of the sheet; empty where there is no row
 unfoldable pub bodyAt : List ℕ → ℕ → ℕ → List ℕ
@@ -38,4 +38,4 @@ advanced r =
 
 -- the row, and the place after it
 abbrev pub readRow : List ℕ → ℕ → ℕ → RowRead
-readRow s row at = record { what = rowAt s row at; row = placeAfter s row at .row; at = placeAfter s row at .at }
+readRow s row at = record { what = readAt s row at; row = placeAfter s row at .row; at = placeAfter s row at .at }

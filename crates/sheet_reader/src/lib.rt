@@ -1,8 +1,15 @@
 // The sheet reader keeps the sheet's bytes with the row reached and where that row's body starts; it hands back the body's part of the sheet.
 // The functions over it are thin and proved by hand. What they answer is computed by functions on a slice and numbers.
 ghost use mathlib.Core.Path.{_≡_};
-ghost use Rattle.sheet_reader.specs.Reading.{inSheet, rowAt, bodyAt, placeAfter, readerAt, advanced, readRow};
+ghost use Prim.Native.Nat.{_+_, _*_, _≤_, _<_};
+ghost use lib.ListN.{length, take, drop};
+ghost use Rattle.sheet.specs.Head.{limits, headOf, rowCount};
+ghost use Rattle.sheet.specs.Table.{rowKind, bodyOf};
+ghost use Rattle.sheet.specs.Read.{Readable};
+ghost use Rattle.sheet.specs.Walk.{cursorAt, AtRow};
+ghost use Rattle.sheet_reader.specs.Reading.{inSheet, readAt, bodyAt, placeAfter, readerAt, advanced, readRow};
 use sheet::Cursor;
+use sheet::SheetHead;
 
 pub struct SheetReader<'a> {
     pub bytes: &'a [u8],
@@ -16,7 +23,43 @@ pub struct SheetRow {
     pub length: usize,
 }
 
-// ---- on a slice and numbers: the row, from 0, and where its body starts
+// ---- at a row that the table has, whose body starts in the sheet
+
+// The row; none where its body ends behind the sheet.
+pub fn row_from(s: &[u8], c: Cursor) -> SheetRow
+    requires { ⌜ (24 + 8 * c .row ≤ length (now s)) × (c .at ≤ length (now s)) ⌝ }
+    ensures { λ r. ⌜ r ≡ readAt (now (s .entry)) (c .row) (c .at) ⌝ }
+{
+    let length = sheet::length_at(s, c.row);
+    if s.len() - c.at < length {
+        return SheetRow { kind: 0, length: 0 };
+    }
+    SheetRow {
+        kind: sheet::kind_at(s, c.row),
+        length,
+    }
+}
+
+// Its body's part of the sheet.
+pub fn body_from(s: &[u8], c: Cursor, r: SheetRow) -> &[u8]
+    requires { ⌜ c .at + r .length ≤ length (now s) ⌝ }
+    ensures { λ b. ⌜ now b ≡ take (r .length) (drop (c .at) (now (s .entry))) ⌝ }
+{
+    sheet::part(s, c.at, r.length)
+}
+
+// The place after it.
+pub fn after(c: Cursor, r: SheetRow) -> Cursor
+    requires { ⌜ (c .row < 18446744073709551615) × (c .at + r .length < 18446744073709551616) ⌝ }
+    ensures { λ d. ⌜ d ≡ record { row = c .row + 1; at = c .at + r .length } ⌝ }
+{
+    Cursor {
+        row: c.row + 1,
+        at: c.at + r.length,
+    }
+}
+
+// ---- at any place: a row, from 0, and where its body starts
 
 // Whether the row stands in the table and its body in the sheet.
 fn in_sheet(s: &[u8], row: usize, at: usize) -> bool
@@ -36,15 +79,12 @@ fn in_sheet(s: &[u8], row: usize, at: usize) -> bool
 }
 
 pub fn row_at(s: &[u8], row: usize, at: usize) -> SheetRow
-    ensures { λ r. ⌜ r ≡ rowAt (now (s .entry)) row at ⌝ }
+    ensures { λ r. ⌜ r ≡ readAt (now (s .entry)) row at ⌝ }
 {
     if !in_sheet(s, row, at) {
         return SheetRow { kind: 0, length: 0 };
     }
-    SheetRow {
-        kind: sheet::kind_at(s, row),
-        length: sheet::length_at(s, row),
-    }
+    row_from(s, Cursor { row, at })
 }
 
 // The body's part of the sheet; empty where there is no row.
@@ -54,20 +94,19 @@ pub fn body_at(s: &[u8], row: usize, at: usize) -> &[u8]
     if !in_sheet(s, row, at) {
         return &s[0..0];
     }
-    sheet::part(s, at, sheet::length_at(s, row))
+    let c = Cursor { row, at };
+    body_from(s, c, row_from(s, c))
 }
 
 // The row after it and where that one's body starts; the same place where there is no row.
 pub fn place_after(s: &[u8], row: usize, at: usize) -> Cursor
     ensures { λ r. ⌜ r ≡ placeAfter (now (s .entry)) row at ⌝ }
 {
+    let c = Cursor { row, at };
     if !in_sheet(s, row, at) {
-        return Cursor { row, at };
+        return c;
     }
-    Cursor {
-        row: row + 1,
-        at: at + sheet::length_at(s, row),
-    }
+    after(c, row_from(s, c))
 }
 
 // ---- the reader
@@ -79,8 +118,8 @@ pub fn open<'a>(bytes: &'a [u8], row: usize, at: usize) -> SheetReader<'a>
 }
 
 // The row that the reader stands at.
-pub fn next<'a>(r: SheetReader<'a>) -> SheetRow
-    ensures { λ x. ⌜ x ≡ rowAt (now (r .entry .bytes)) (r .entry .row) (r .entry .at) ⌝ }
+pub fn row<'a>(r: SheetReader<'a>) -> SheetRow
+    ensures { λ x. ⌜ x ≡ readAt (now (r .entry .bytes)) (r .entry .row) (r .entry .at) ⌝ }
 {
     row_at(r.bytes, r.row, r.at)
 }
@@ -93,7 +132,7 @@ pub fn body<'a>(r: SheetReader<'a>) -> &'a [u8]
 }
 
 // The reader at the row after it.
-pub fn advance<'a>(r: SheetReader<'a>) -> SheetReader<'a>
+pub fn next<'a>(r: SheetReader<'a>) -> SheetReader<'a>
     ensures { λ q. ⌜ q ≡ advanced (r .entry) ⌝ }
 {
     let p = place_after(r.bytes, r.row, r.at);
@@ -113,12 +152,12 @@ pub struct RowRead {
     pub at: usize,
 }
 
-pub fn read_row(s: &[u8], row: usize, at: usize) -> RowRead
-    ensures { λ r. ⌜ r ≡ readRow (now (s .entry)) row at ⌝ }
+pub fn read_row(s: &[u8], k: usize, at: usize) -> RowRead
+    ensures { λ r. ⌜ r ≡ readRow (now (s .entry)) k at ⌝ }
 {
-    let r = open(s, row, at);
-    let what = next(r);
-    let q = advance(r);
+    let r = open(s, k, at);
+    let what = row(r);
+    let q = next(r);
     RowRead {
         what,
         row: q.row,
@@ -126,8 +165,53 @@ pub fn read_row(s: &[u8], row: usize, at: usize) -> RowRead
     }
 }
 
-pub fn body_of<'a>(s: &'a [u8], row: usize, at: usize) -> &'a [u8]
-    ensures { λ r. ⌜ now r ≡ bodyAt (now (s .entry)) row at ⌝ }
+pub fn body_of<'a>(s: &'a [u8], k: usize, at: usize) -> &'a [u8]
+    ensures { λ r. ⌜ now r ≡ bodyAt (now (s .entry)) k at ⌝ }
 {
-    body(open(s, row, at))
+    body(open(s, k, at))
+}
+
+// ---- at a cursor that stands at a row of a sheet
+
+pub struct CursorRow {
+    pub kind: u32,
+    pub next: Cursor,
+}
+
+// The row's kind, and the cursor at the row after it.
+pub fn cursor_row(s: &[u8], c: Cursor) -> CursorRow
+    requires { ⌜ AtRow (now s) c ⌝ }
+    ensures { λ r. ⌜ (r .kind ≡ rowKind (now (s .entry)) (c .row)) × (r .next ≡ cursorAt (now (s .entry)) (c .row + 1)) ⌝ }
+{
+    let r = read_row(s, c.row, c.at);
+    CursorRow {
+        kind: r.what.kind,
+        next: Cursor {
+            row: r.row,
+            at: r.at,
+        },
+    }
+}
+
+// Its body, a part of the sheet.
+pub fn cursor_body(s: &[u8], c: Cursor) -> &[u8]
+    requires { ⌜ AtRow (now s) c ⌝ }
+    ensures { λ r. ⌜ now r ≡ bodyOf (now (s .entry)) (c .row) ⌝ }
+{
+    body_of(s, c.row, c.at)
+}
+
+// The cursor at row k of a readable sheet, or behind its last row.
+pub fn cursor_at(s: &[u8], k: usize) -> Cursor
+    requires { ⌜ Readable limits (now s) × (k ≤ rowCount (headOf (now s))) ⌝ }
+    ensures { λ r. ⌜ r ≡ cursorAt (now (s .entry)) k ⌝ }
+{
+    let h = SheetHead::new(s);
+    let mut c = Cursor::new(h.rows());
+    let mut i = 0;
+    while i < k {
+        c = cursor_row(s, c).next;
+        i += 1;
+    }
+    c
 }

@@ -3,11 +3,10 @@ ghost use mathlib.Core.Path.{_≡_};
 ghost use Prim.Native.Nat.{_+_, _*_, _≤_};
 ghost use lib.ListN.{length};
 ghost use Rattle.igvm_defs.specs.Kinds.{kindOf};
-ghost use Rattle.sheet.specs.Head.{headOf, rowCount, bodiesAt};
+ghost use Rattle.sheet.specs.Head.{headOf, bodiesAt};
 ghost use Rattle.sheet.specs.Table.{rowKind, offsetOf};
 ghost use Rattle.sheet.specs.Read.{listAt, codesOk, rowFault, rowsRefusal};
-ghost use Rattle.sheet.specs.Walk.{cursorAt, Passed};
-ghost use Rattle.sheet_rows.specs.Pages.{pageFits, PagesRead};
+ghost use Rattle.sheet.specs.Walk.{ReadTo};
 use igvm_defs::Fault;
 use igvm_defs::Kind;
 use igvm_defs::Refusal;
@@ -73,21 +72,11 @@ fn row_fault(s: &[u8], h: SheetHead, t: Kind, k: usize, at: usize) -> Fault
     igvm_defs::refuse(!codes_ok(kind, sheet::part(s, at, len)), 5, 0, Fault::NONE)
 }
 
-// Whether row k, whose body starts at `at`, is a page of data that its length and the end of the sheet allow. Most rows are, and of such a row among
-// the directives there is nothing else to test.
-fn is_page(s: &[u8], k: usize, at: usize) -> bool
-    requires { ⌜ (24 + 8 * k ≤ length (now s)) × (at ≤ length (now s)) ⌝ }
-    ensures { λ r. ⌜ r ≡ pageFits (now (s .entry)) k at ⌝ }
-{
-    let len = sheet::length_at(s, k);
-    (sheet::kind_at(s, k) == 32) & (18 <= len) & (len <= s.len() - at)
-}
-
-// The first row from the cursor on that is no such page among the directives; else the place behind the last row.
+// The first row from the cursor on that is no page of data among the directives, long enough for its fields; else the place behind the last row. Most rows
+// are such pages, and of one of them there is nothing else to test.
 fn past_pages(s: &[u8], h: SheetHead, from: Cursor) -> Cursor
-    requires { ⌜ (h ≡ headOf (now s)) × (bodiesAt h ≤ length (now s)) ⌝ }
-    requires { ⌜ (from ≡ cursorAt (now s) (from .row)) × (from .at ≤ length (now s)) × (from .row ≤ rowCount h) ⌝ }
-    ensures { λ r. ⌜ PagesRead (now (s .entry)) (from .row) r ⌝ }
+    requires { ⌜ (h ≡ headOf (now s)) × (bodiesAt h ≤ length (now s)) × ReadTo (now s) from ⌝ }
+    ensures { λ r. ⌜ ReadTo (now (s .entry)) r × (from .row ≤ r .row) ⌝ }
 {
     let n = h.rows();
     let mut c = from;
@@ -95,23 +84,21 @@ fn past_pages(s: &[u8], h: SheetHead, from: Cursor) -> Cursor
         return c;
     }
     while c.row < n {
-        let k = c.row;
-        let at = c.at;
-        if !is_page(s, k, at) {
+        let r = sheet_reader::row_from(s, c);
+        if r.kind != 32 {
             return c;
         }
-        c = Cursor {
-            row: k + 1,
-            at: at + sheet::length_at(s, k),
-        };
+        if r.length < 18 {
+            return c;
+        }
+        c = sheet_reader::after(c, r);
     }
     c
 }
 
 // The first refusal of the rows, then of bytes left over, where no row before the cursor has one.
 pub fn read_from(s: &[u8], h: SheetHead, from: Cursor) -> Refusal
-    requires { ⌜ (h ≡ headOf (now s)) × (bodiesAt h ≤ length (now s)) ⌝ }
-    requires { ⌜ (from ≡ cursorAt (now s) (from .row)) × (from .row ≤ rowCount h) × (from .at ≤ length (now s)) × Passed (now s) (from .row) ⌝ }
+    requires { ⌜ (h ≡ headOf (now s)) × (bodiesAt h ≤ length (now s)) × ReadTo (now s) from ⌝ }
     ensures { λ r. ⌜ r ≡ rowsRefusal (now (s .entry)) ⌝ }
 {
     let kinds = igvm_defs::kinds();
@@ -119,13 +106,13 @@ pub fn read_from(s: &[u8], h: SheetHead, from: Cursor) -> Refusal
     let mut c = from;
     while c.row < n {
         let k = c.row;
-        let at = c.at;
         let i = igvm_defs::kind_index(sheet::kind_at(s, k));
-        let f = row_fault(s, h, kinds[i], k, at);
+        let f = row_fault(s, h, kinds[i], k, c.at);
         if f.is_fault() {
             return f.in_row((k + 1) as u64);
         }
-        c = past_pages(s, h, c.next(s));
+        let r = sheet_reader::row_from(s, c);
+        c = past_pages(s, h, sheet_reader::after(c, r));
     }
     igvm_defs::refuse(c.at < s.len(), 6, 0, Fault::NONE).in_row(0)
 }

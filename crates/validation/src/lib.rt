@@ -6,13 +6,13 @@ ghost use lib.ListN.{length};
 ghost use Rattle.rows.specs.Below.{anyBelow};
 ghost use Rattle.rows.specs.Rows.{before};
 ghost use Rattle.igvm_defs.specs.Refusals.{noRefusal, isFault, isRefusal};
-ghost use Rattle.sheet.specs.Head.{limits, headOf, rowCount, startFault};
+ghost use Rattle.sheet.specs.Head.{limits, headOf, firstDirective, rowCount, startFault};
 ghost use Rattle.sheet.specs.Read.{Readable, sheetRefusal};
 ghost use Rattle.sheet.specs.Walk.{cursorAt, ReadTo};
 ghost use Rattle.sheet_headers.specs.Headers.{sheetHeaders};
 ghost use Rattle.rules.specs.Verdict.{directiveFaults};
 ghost use Rattle.directive_check.specs.Record.{HoldsContexts};
-ghost use Rattle.directive_accept.specs.Accepted.{firstDirective, DirectivesAccepted};
+ghost use Rattle.directive_accept.specs.Accepted.{DirectivesAccepted};
 ghost use Rattle.initialization_check.specs.Record.{regionsIn};
 ghost use Rattle.answers.specs.Verdict.{verdictOf, verdictRefusal};
 ghost use Rattle.keep.specs.Kept.{Kept};
@@ -47,7 +47,7 @@ fn start_of(s: &[u8], head: SheetHead, from: Cursor, contexts: [u32; 3]) -> Star
     let first = (head.platforms as usize) + (head.initializations as usize);
     if from.row < first {
         return Start {
-            at: sheet::cursor_at(s, first),
+            at: sheet_reader::cursor_at(s, first),
             contexts: [0; 3],
         };
     }
@@ -60,12 +60,12 @@ fn validate_headers(s: &[u8], head: SheetHead, from: Cursor, contexts: [u32; 3])
     requires { ⌜ (isRefusal (sheetRefusal limits (now s)) ≡ false) × (head ≡ headOf (now s)) × ReadTo (now s) from × (firstDirective (now s) ≤ from .row → DirectivesAccepted (now s) from contexts) ⌝ }
     ensures { λ r. ⌜ HeadersPassed (now (s .entry)) (r .refusal) (r .contexts) ⌝ }
 {
-    let first = passes::validate_platform_headers(s, head);
+    let first = platform_pass::validate_platform_headers(s, head);
     let platforms = first.refusal;
     if platforms.is_refusal() {
         return no_contexts(platforms);
     }
-    let second = passes::validate_initialization_headers(s, head, first.platforms);
+    let second = initialization_pass::validate_initialization_headers(s, head, first.platforms);
     let initializations = second.refusal;
     if initializations.is_refusal() {
         return no_contexts(initializations);

@@ -1,33 +1,29 @@
-use Rattle.rows.proofs.Kit.{_-_, _+_, arith, _≡_, sym, ap, _∙_, needs, now}
-use Rattle.sheet.{specs.declared.SheetHead.SheetHead, specs.Head.headOf, specs.Walk.cursorAt}
+use Rattle.rows.proofs.Kit.{_-_, _+_, _<_, arith, _≡_, sym, ap, _∙_, needs, now}
+use Rattle.sheet.{specs.declared.SheetHead.SheetHead, specs.Head.{headOf, firstDirective}, specs.Walk.cursorAt}
 use Rattle.directive_check.specs.Record.{DirectiveStepped}
 use Rattle.sheet_headers.{specs.Headers.sheetHeaders, proofs.HeaderLaws.sheet-counts}
-use Rattle.directive_pass.specs.Passed.{firstDirective}
-use Rattle.directive_pass.proofs.{DirectivePass.{Reached, reached-bounds, regions-room, holds-tables, reached-row, reached-list, reached-header, reached-next, reached-stop, reached-end}, validate_directive_headers.Statement.statement}
+use Rattle.directive_pass.proofs.{DirectivePass.{DirectivesReached, directive-known, directive-small, directive-room, holds-tables, reached-header, directive-next, directives-stop, directives-end}, validate_directive_headers.Statement.statement}
 use Rattle.directive_pass.proofs.validate_directive_headers.Tie as tie
 
 abbrev Inv-loop : tie.InvT-loop
-Inv-loop s head contexts₀ regions first n arch held c₀ i₀ contexts c i = Reached s regions first n arch c contexts i
+Inv-loop s head contexts₀ regions first n arch held c₀ i₀ contexts c i = DirectivesReached s regions first n arch c contexts i
 
 abbrev μ-loop : tie.MeasureT-loop
 μ-loop s head contexts₀ regions first n arch held c₀ i₀ contexts c i = n - i
 
 -- a turn's step tells the row's fault, and the masks with the row's context
 stepped : (c : tie.After-step Inv-loop μ-loop)
-    → let l = c .before .before .before .before .before .before .before .before .before .before in
-    let f = sheetHeaders (now (l .before .before .before .before .before .before .before .before .args .s)) in
-    DirectiveStepped (f .arch) (f .initializations) (f .directives) (l .loop .i) (c .step .result .fault) (c .step .result .contexts)
+    → let f = sheetHeaders (now (c .before .before .before .before .before .before .before .before .before .before .before .before .before .before .before .before .before .before .args .s)) in
+    DirectiveStepped (f .arch) (f .initializations) (f .directives) (c .before .before .before .before .before .before .before .before .before .before .loop .i) (c .step .result .fault) (c .step .result .contexts)
 stepped c =
-    let b = c .before .before .before .before .before .before .before .before in
-    let t = b .before in
-    let l = t .before in
-    let f = sheetHeaders (now (l .before .before .before .before .before .before .before .before .args .s)) in
-    let r = l .loop .inv in
+    let l = c .before .before .before .before .before .before .before .before .before .before .loop in
+    let f = sheetHeaders (now (c .before .before .before .before .before .before .before .before .before .before .before .before .before .before .before .before .before .before .args .s)) in
+    let r = l .inv in
     let g = c .before .before .before .before .before .before .before .directive-at in
-    let h : g .result ≡ f .directives .row (l .loop .i) = rw (g .ensures) (reached-header r) in
-    let bad = rw (← h) at (b .bad-area .ensures) in
+    let h : g .result .header ≡ f .directives .row (l .i) = rw (g .ensures .0) (reached-header r) in
+    let bad = rw (← h) at (c .before .before .before .before .before .before .before .before .bad-area .ensures) in
     rw (← r .arch)
-    (c .step .ensures (f .initializations) (f .directives) (l .loop .i) h bad (c .before .inside-table .ensures (f .initializations) (holds-tables _ (f .initializations) (r .regions))) (r .contexts))
+    (c .step .ensures (f .initializations) (f .directives) (l .i) h bad (c .before .inside-table .ensures (f .initializations) (holds-tables _ (f .initializations) (r .regions))) (r .contexts))
 
 sub-i : tie.Need-sub-i Inv-loop μ-loop
 sub-i c =
@@ -49,61 +45,38 @@ loop-holds c =
     let here : st .args .from .row - (st .args .head .platforms + st .args .head .initializations) ≡ st .args .from .row - firstDirective s = omega arith in
     record {
       readable = st .pre .0 .0;
-      first = first;
+      first-row = first;
       rows = rows;
       arch = rw (c .before .arch .ensures, c .before .before .revision .ensures, e) (sheet-counts s .arch);
       regions = st .pre .0 .2;
-      within = omega arith;
-      cursor = from .0 ∙ ap (cursorAt s) (omega arith);
+      reached = record { below = omega arith; at = from .0 ∙ ap (cursorAt s) (omega arith); passed = rw here (st .pre .1 .1 .0) };
       contexts = rw here (st .pre .1 .1 .1);
-      good = rw here (st .pre .1 .1 .0);
     }
 
 bad-area-requires : tie.Need-bad-area-requires Inv-loop μ-loop
 bad-area-requires c κs =
     let r = c .before .loop .inv in
-    let st = c .before .before .before .before .before .before .before .before .before in
-    (r .readable, st .pre .0 .1, rw (← r .rows) (c .loop-test .taken), r .cursor)
+    (r .readable, c .before .before .before .before .before .before .before .before .before .pre .0 .1, rw (← r .rows) (c .loop-test .taken), rw (r .first-row) at (r .reached .at))
 
-directive-at-requires : tie.Need-directive-at-requires Inv-loop μ-loop
-directive-at-requires c κs =
-    let r = c .before .before .loop .inv in
-    (reached-row r (c .before .loop-test .taken), reached-list r (c .before .loop-test .taken))
-
-inside-table-requires : tie.Need-inside-table-requires Inv-loop μ-loop
-inside-table-requires c κs = regions-room (c .before .before .before .before .before .before .before .before .loop .inv)
+-- rows are few
+few : (c : tie.In-loop Inv-loop μ-loop) → c .before .before .before .before .before .before .before .before .before .args .head .platforms + c .before .before .before .before .before .before .before .before .before .args .head .initializations + c .before .loop .i < 1104
+few c = let b = directive-small (c .before .loop .inv) in let l = c .loop-test .taken in omega arith
 
 add-in-row : tie.Need-add-in-row Inv-loop μ-loop
-add-in-row c =
-    let t = c .before .before .before .before .before .before .before .before .before .before .before .before .before in
-    let b = reached-bounds (t .before .loop .inv) in
-    let l = t .loop-test .taken in
-    omega arith
+add-in-row c = let l = few (c .before .before .before .before .before .before .before .before .before .before .before .before .before) in omega arith
 
 add-in-row-2 : tie.Need-add-in-row-2 Inv-loop μ-loop
-add-in-row-2 c =
-    let t = c .before .before .before .before .before .before .before .before .before .before .before .before .before in
-    let b = reached-bounds (t .before .loop .inv) in
-    let l = t .loop-test .taken in
-    omega arith
+add-in-row-2 c = let l = few (c .before .before .before .before .before .before .before .before .before .before .before .before .before) in omega arith
 
 returns : tie.Need-returns Inv-loop μ-loop
 returns c =
     let d = c .before .before .before .before .before in
-    let t = d .before .before .before .before .before .before .before .before .before in
+    let t = c .before .before .before .before .before .before .before .before .before .before .before .before .before .before in
     let e = sym (c .before .before .is-fault .ensures) ∙ c .before .if1 .taken in
-    rw (c .in-row .ensures) (reached-stop (t .before .loop .inv) (t .loop-test .taken) (stepped d) e)
-
-next-requires : tie.Need-next-requires Inv-loop μ-loop
-next-requires c κs =
-    let t = c .before .before .before .before .before .before .before .before .before .before .before .before .before in
-    reached-row (t .before .loop .inv) (t .loop-test .taken)
+    rw (c .in-row .ensures) (directives-stop (t .before .loop .inv) _ _ (t .loop-test .taken) (stepped d) e)
 
 add-i : tie.Need-add-i Inv-loop μ-loop
-add-i c =
-    let b = reached-bounds (c .before .before .before .before .before .before .before .before .before .before .before .before .before .before .before .loop .inv) in
-    let l = c .before .before .before .before .before .before .before .before .before .before .before .before .before .before .loop-test .taken in
-    omega arith
+add-i c = let l = few (c .before .before .before .before .before .before .before .before .before .before .before .before .before .before) in omega arith
 
 loop-less : tie.Need-loop-less Inv-loop μ-loop
 loop-less c = let l = c .before .before .before .before .before .before .before .before .before .before .before .before .before .before .loop-test .taken in omega arith
@@ -111,19 +84,20 @@ loop-less c = let l = c .before .before .before .before .before .before .before 
 loop-again : tie.Need-loop-again Inv-loop μ-loop
 loop-again c =
     let d = c .before .before .before .before .before in
-    let t = d .before .before .before .before .before .before .before .before .before in
+    let t = c .before .before .before .before .before .before .before .before .before .before .before .before .before .before in
     let e = sym (c .before .before .is-fault .ensures) ∙ c .before .if1 .left in
-    rw (c .next2 .ensures) (reached-next (t .before .loop .inv) (t .loop-test .taken) (stepped d) e)
+    directive-next (t .before .loop .inv) _ _ _ (t .loop-test .taken) (stepped d) e (c .before .before .before .before .before .before .before .before .before .before .before .before .directive-at .ensures .1)
 
 returns-2 : tie.Need-returns-2 Inv-loop μ-loop
 returns-2 c =
     let l = c .before .before .before in
     rw (c .in-row2 .ensures, c .before .refuse .ensures, c .before .before .no-matching-vp-context .ensures)
-    (reached-end (l .before .loop .inv) (l .loop-test .left))
+    (directives-end (l .before .loop .inv) (l .loop-test .left))
 
 pub validate-directive-headers-spec : {M : Type 1} → statement M
 validate-directive-headers-spec =
     tie.close (tie.spec Inv-loop μ-loop (λ c. search needs) (λ c. search needs) (λ c. search needs) (λ c. search needs)
-    (λ c κs. search needs) (λ c κs. search needs) sub-i loop-holds bad-area-requires directive-at-requires inside-table-requires
-    (λ c κs. search needs) (λ c κs. search needs) add-in-row add-in-row-2 (λ c κs. search needs) returns next-requires add-i loop-less
-    loop-again (λ c κs. regions-room (c .before .loop .inv)) (λ c κs. search needs) (λ c κs. search needs) returns-2)
+    (λ c κs. search needs) (λ c κs. search needs) sub-i loop-holds bad-area-requires
+    (λ c κs. directive-known (c .before .before .loop .inv) (c .before .loop-test .taken)) (λ c κs. directive-room (c .before .before .before .before .before .before .before .before .loop .inv))
+    (λ c κs. search needs) (λ c κs. search needs) add-in-row add-in-row-2 (λ c κs. search needs) returns add-i loop-less
+    loop-again (λ c κs. directive-room (c .before .loop .inv)) (λ c κs. search needs) (λ c κs. search needs) returns-2)

@@ -39,9 +39,6 @@ one-at-most false = omega arith
 add-n : tie.Need-add-n Inv-loop μ-loop
 add-n c = let small = room (c .before .before .before .before) .1 in let m = one-at-most (c .before .before .region-of .result .found) in omega arith
 
-next-requires : tie.Need-next-requires Inv-loop μ-loop
-next-requires c κs = let t = c .before .before .before .before in row-known (t .before .loop .inv) (t .loop-test .taken) .0
-
 add-i : tie.Need-add-i Inv-loop μ-loop
 add-i c = let small = room (c .before .before .before .before .before) .0 in omega arith
 
@@ -53,7 +50,7 @@ loop-again c =
     let q = c .before .before .before in
     let t = q .before .before in
     let f = q .region-of .result in
-    reached-next (t .before .loop .inv) _ _ (f .found) (f .region) (t .loop-test .taken) (q .before .initialization-at .ensures) (q .region-of .ensures) (c .next .ensures)
+    reached-next (t .before .loop .inv) _ _ (f .found) (f .region) (t .loop-test .taken) (q .before .initialization-at .ensures .0) (q .region-of .ensures) (q .before .initialization-at .ensures .1)
 
 pub keep-regions-spec : {M : Type 1} → statement M
 keep-regions-spec =
@@ -68,7 +65,7 @@ keep-regions-spec =
     (λ c. let small = room (c .before .before .before) .0 in omega arith)
     (λ c. let small = room (c .before .before .before) .0 in omega arith)
     (λ c. let small = room (c .before .before .before) .1 in omega arith) (λ c. room (c .before .before .before) .3) (λ c. search needs)
-    add-n next-requires add-i loop-less loop-again (λ c. c .before .loop .inv .lent .mask .0) (λ c. c .before .loop .inv .lent .gpa .0)
+    add-n add-i loop-less loop-again (λ c. c .before .loop .inv .lent .mask .0) (λ c. c .before .loop .inv .lent .gpa .0)
     (λ c. c .before .loop .inv .lent .size .0) (λ c. c .before .loop .inv .lent .vp .0) (λ c. c .before .loop .inv .lent .vtl .0)
     (λ c. c .before .loop .inv .lent .table .0) (λ c. c .before .loop .inv .lent .number .0)
     (λ c. reached-end (c .before .loop .inv) (c .loop-test .left)))

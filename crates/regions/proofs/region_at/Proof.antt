@@ -1,10 +1,10 @@
 -- `region_at` meets its contract: over the first i rows the region found is theirs. Assumes nothing.
-use Rattle.rows.{proofs.Kit.{_≡_, refl, _∙_, _+_, _-_, _≤_, arith, now, needs}, specs.Rows.before, specs.Below.{sumBelow, nthBelow}}
+use Rattle.rows.{proofs.Kit.{_≡_, refl, _∙_, _+_, _-_, _≤_, add-zero, arith, now, needs}, specs.Rows.before, specs.Below.{sumBelow, nthBelow}}
 use Rattle.sheet.{specs.Head.headOf, specs.Walk.cursorAt}
 use Rattle.rules.specs.Relocations.{regionCount, regionAt}
 use Rattle.answers.specs.Relocations.{sheetInitializations}
 use Rattle.regions.specs.Found.{foundRegion}
-use Rattle.regions.proofs.{FoundLaws.{regions-more, regions-few, region-more}, TurnLaws.{AtInitialization, at-initialization, first-row, first-within, all-rows}, region_at.Statement.statement}
+use Rattle.regions.proofs.{FoundLaws.{regions-more, regions-few, region-more}, TurnLaws.{Turn, turn-at, all-rows}, region_at.Statement.statement}
 use Rattle.regions.proofs.region_at.Tie as tie
 
 abbrev Inv-loop : tie.InvT-loop
@@ -17,22 +17,18 @@ abbrev μ-loop : tie.MeasureT-loop
 
 -- the facts of a turn
 known : (c : tie.In-loop Inv-loop μ-loop)
-    → AtInitialization (now (c .before .before .before .before .before .before .args .s)) (c .before .loop .c) (c .before .loop .i)
+    → Turn (now (c .before .before .before .before .before .before .args .s)) (c .before .loop .c) (c .before .loop .i)
 known c =
     let st = c .before .before .before .before .before .before in
     let l = c .before .loop in
-    at-initialization (now (st .args .s)) (st .args .head) (st .pre .1) (st .pre .0) (l .c) (l .i) (l .inv .1) (c .loop-test .taken)
+    turn-at (now (st .args .s)) (st .args .head) (st .pre .1) (st .pre .0) (l .c) (l .i) (l .inv .1) (c .loop-test .taken)
 
 cursor-at-requires : tie.Need-cursor-at-requires Inv-loop μ-loop
-cursor-at-requires c κs =
-    let st = c .before .before .before in
-    (st .pre .0, first-within (now (st .args .s)) (st .args .head) (st .pre .1))
+cursor-at-requires c κs = let st = c .before .before .before in (st .pre .0, rw (st .pre .1) (omega arith))
 
 loop-holds : tie.Need-loop-holds Inv-loop μ-loop
 unfolding regionCount regionAt sumBelow nthBelow
-loop-holds c =
-    let st = c .before .before .before .before in
-    (omega arith, c .cursor-at .ensures ∙ first-row (now (st .args .s)) (st .args .head) (st .pre .1), refl, refl)
+loop-holds c = (omega arith, rw (c .cursor-at .ensures, c .before .before .before .before .pre .1, add-zero), refl, refl)
 
 add-seen : tie.Need-add-seen Inv-loop μ-loop
 add-seen c =
@@ -49,9 +45,10 @@ loop-again c =
     let xs = sheetInitializations (now (a .s)) in
     let l = c .before .before .before .before .before .before .loop in
     let t = known (c .before .before .before .before .before) in
-    let h = c .before .before .before .before .initialization-at .ensures ∙ t .header in (
+    let row = c .before .before .before .before .initialization-at .ensures in
+    let h = row .0 ∙ t .header in (
       omega arith,
-      c .next .ensures ∙ t .next,
+      row .1 ∙ t .next,
       rw (regions-more xs (a .given) (l .i), ← l .inv .2, ← h) (cc),
       rw (region-more xs (a .given) (l .i) (a .k), ← l .inv .2, ← l .inv .3, ← h) (c .before .before .before .region-step .ensures),
     )
@@ -65,5 +62,5 @@ returns c =
 pub region-at-spec : {M : Type 1} → statement M
 region-at-spec =
     tie.close (tie.spec Inv-loop μ-loop (λ c. search needs) (λ c. search needs) cursor-at-requires loop-holds
-    (λ c κs. let t = known c in (t .place, t .list)) (λ c κs. search needs) (λ c κs. search needs) (λ c κs. search needs) add-seen
-    (λ c κs. known (c .before .before .before .before) .place) add-i (λ c. search needs) loop-again returns)
+    (λ c κs. known c .listed) (λ c κs. search needs) (λ c κs. search needs) (λ c κs. search needs) add-seen
+    add-i (λ c. search needs) loop-again returns)

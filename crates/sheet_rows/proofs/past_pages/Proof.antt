@@ -1,68 +1,49 @@
-use borrow.Author.Count.{below-more}
-use Rattle.rows.proofs.Kit.{_≡_, sym, ap, _∙_, true, false, List, ℕ, _≤_, _-_, arith, length, needs, not-false, now}
-use Rattle.igvm_defs.specs.Refusals.{isFault}
-use Rattle.sheet.{specs.declared.Cursor.Cursor, specs.declared.SheetHead.SheetHead, specs.Head.{headOf, rowCount}, specs.Table.offsetOf, specs.Read.rowFault, specs.Walk.cursorAt, proofs.Readable.offset-next}
-use Rattle.sheet_rows.specs.Pages.{pageFits, PagesRead}
-use Rattle.sheet_rows.proofs.{RowLaws.page-passes, past_pages.Statement.statement}
+use Rattle.rows.proofs.Kit.{_≡_, ap, _≤_, _-_, _+_, _*_, arith, length, needs, now}
+use Rattle.sheet.{specs.declared.SheetHead.SheetHead, specs.Head.{headOf, rowCount}, specs.Walk.ReadTo}
+use Rattle.sheet_reader.proofs.ReaderLaws.{Found, kind-found, read-after}
+use Rattle.sheet_rows.proofs.{RowLaws.page-reads, past_pages.Statement.statement}
 use Rattle.sheet_rows.proofs.past_pages.Tie as tie
 
 abbrev Inv-loop : tie.InvT-loop
-Inv-loop s n c₀ c = PagesRead s (c₀ .row) c
+Inv-loop s n c₀ c = ReadTo s c × (c₀ .row ≤ c .row)
 
 abbrev μ-loop : tie.MeasureT-loop
 μ-loop s n c₀ c = n - c .row
 
--- no row is passed at first
-none : (s : List ℕ) (h : SheetHead) (c : Cursor) → h ≡ headOf s → c ≡ cursorAt s (c .row) → c .at ≤ length s → c .row ≤ rowCount h → PagesRead s (c .row) c
-none s h c e at room high =
-    record { at = at; low = omega arith; high = rw (← e) high; room = room; rows = λ k l m. absurd (omega arith) }
+-- a page is there
+page : (c : tie.Else3 Inv-loop μ-loop) → let l = c .before .before .before .before .before .loop in Found (now (c .before .before .before .before .before .before .before .before .before .before .before .before .args .s)) (l .c .row) (l .c .at) (c .before .before .row-from .result)
+page c = let k = c .if3 .left in kind-found _ _ _ _ (c .before .before .row-from .ensures) (omega arith)
 
-returns : tie.Need-returns Inv-loop μ-loop
-returns c = let st = c .before .before .before .before .before .before in none _ _ _ (st .pre .0 .0) (st .pre .1 .0) (st .pre .1 .1) (st .pre .1 .2)
-
-loop-holds : tie.Need-loop-holds Inv-loop μ-loop
-loop-holds c = let st = c .before .before .before .before .before .before in none _ _ _ (st .pre .0 .0) (st .pre .1 .0) (st .pre .1 .1) (st .pre .1 .2)
-
-is-page-requires : tie.Need-is-page-requires Inv-loop μ-loop
-is-page-requires c κs =
-    let t = c .if2 .taken in
+row-from-requires : tie.Need-row-from-requires Inv-loop μ-loop
+row-from-requires c κs =
     let n = c .before .before .before .before .before .before .before .rows .ensures in
-    (omega arith, c .before .before .loop .inv .room)
+    (omega arith, c .before .before .loop .inv .0 .room)
 
-length-at-requires : tie.Need-length-at-requires Inv-loop μ-loop
-length-at-requires c κs =
-    let t = c .before .before .if2 .taken in
-    let n = c .before .before .before .before .before .before .before .before .before .rows .ensures in
-    omega arith
+after-requires : tie.Need-after-requires Inv-loop μ-loop
+after-requires c κs = let f = page (c .before .before) in (omega arith, omega arith)
 
-add-t16 : tie.Need-add-t16 Inv-loop μ-loop
-add-t16 c = let room = c .before .before .before .before .before .loop .inv .room in omega arith
+loop-less : tie.Need-loop-less Inv-loop μ-loop
+loop-less c = rw (c .after .ensures) (let l = c .before .before .before .before .before .before .if2 .taken in omega arith)
 
 loop-again : tie.Need-loop-again Inv-loop μ-loop
 loop-again c =
-    let st = c .before .before .before .before .before .before .before .before .before .before .before .before in
+    let st = c .before .before .before .before .before .before .before .before .before .before .before .before .before .before .before in
     let s = now (st .args .s) in
-    let e = st .pre .0 .0 in
-    let l = c .before .before .before .before .before .loop in
-    let p = l .inv in
-    let t = c .before .before .before .if2 .taken in
-    let d = c .before .before .before .before .before .before .if1 .left in
-    let n = c .before .before .before .before .before .before .before .before .before .before .rows .ensures in
-    let len = c .length-at .ensures .0 in
-    let low = p .low in
-    let o : l .c .at ≡ offsetOf s (l .c .row) = ap (λ (x : Cursor). x .at) (p .at) in
-    let fits : pageFits s (l .c .row) (offsetOf s (l .c .row)) ≡ true = rw (← o) (sym (c .before .before .is-page .ensures) ∙ not-false _ (c .before .if3 .left)) in
-    let (good, room) = page-passes s (l .c .row) (rw (← e) (omega arith)) (rw (← o) (p .room)) fits in
-    record {
-      at = rw (len, o, offset-next s (l .c .row));
-      low = omega arith;
-      high = rw (← e) (omega arith);
-      room = rw (len, o) room;
-      rows = λ k m q. below-more (λ (j : ℕ). st .args .from .row ≤ j → isFault (rowFault s j) ≡ false) (l .c .row) (λ j q m. p .rows j m q) (λ m. good) k q m;
-    }
+    let l = c .before .before .before .before .before .before .before .before .loop in
+    let e = st .pre .0 in
+    let t = c .before .before .before .before .before .before .if2 .taken in
+    let n = c .before .before .before .before .before .before .before .before .before .before .before .before .before .rows .ensures in
+    let f = page (c .before .before .before) in
+    let d = c .before .before .before .before .before .before .before .before .before .if1 .left in
+    let low = l .inv .1 in
+    rw (c .after .ensures)
+    (read-after s (l .c) (l .inv .0) _ f (rw (← e) (omega arith)) (page-reads s (l .c) (l .inv .0) (rw (← e) (omega arith)) _ f (c .before .before .before .if3 .left) (c .before .if4 .left)), omega arith)
 
 pub past-pages-spec : {M : Type 1} → statement M
 past-pages-spec =
-    tie.close (tie.spec Inv-loop μ-loop (λ c κs. search needs) (λ c. search needs) (λ c. search needs) (λ c. search needs) returns
-    loop-holds is-page-requires (λ c. c .before .before .before .before .loop .inv) (λ c. omega arith) length-at-requires add-t16
-    (λ c. let t = c .before .before .before .if2 .taken in omega arith) loop-again (λ c. c .before .before .loop .inv))
+    tie.close (tie.spec Inv-loop μ-loop (λ c κs. search needs) (λ c. search needs) (λ c. search needs) (λ c. search needs)
+    (λ c. (c .before .before .before .before .before .before .pre .2, omega arith))
+    (λ c. (c .before .before .before .before .before .before .pre .2, omega arith)) row-from-requires
+    (λ c. c .before .before .before .before .before .loop .inv)
+    (λ c. c .before .before .before .before .before .before .before .loop .inv) after-requires loop-less loop-again
+    (λ c. c .before .before .loop .inv))

@@ -1,8 +1,7 @@
 use Rattle.rows.{proofs.Kit.{_-_, _+_, arith, _≡_, ap, _∙_, needs, now}, specs.Below.anyBelow}
-use Rattle.sheet.{specs.declared.SheetHead.SheetHead, specs.declared.Cursor.Cursor}
+use Rattle.sheet.{specs.declared.SheetHead.SheetHead, specs.declared.Cursor.Cursor, specs.Head.firstDirective}
 use Rattle.directive_check.proofs.DirectiveRecordLaws.{holds-no-contexts}
 use Rattle.sheet_headers.specs.Headers.{sheetHeaders}
-use Rattle.directive_accept.specs.Accepted.{firstDirective}
 use Rattle.validation.proofs.start_of.Statement.{statement}
 use Rattle.validation.proofs.start_of.Tie as tie
 

@@ -14,8 +14,7 @@ size-passed c = rw (← c .before .before .before .before .before .before .befor
 read-from-requires : tie.Need-read-from-requires
 read-from-requires c κs =
     let p = c .before .pre in
-    let r = p .2 in
-    ((p .1, rw (p .1) (start-says limits _ .0 (p .0) .table)), (r .at, rw (p .1) (r .high), r .room, r .passed))
+    (p .1, rw (p .1) (start-says limits _ .0 (p .0) .table), p .2)
 
 -- src/lib.rt:78:8
 -- src/lib.rt:79:9
