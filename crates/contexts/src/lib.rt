@@ -18,7 +18,8 @@ fn mask_of_vtl(contexts: &[u32; 3], vtl: u8) -> u32
     0
 }
 
-fn lacks(contexts: &[u32; 3], mask: u32, vp: u16, vtl: u8) -> bool
+// The region's VP index is not 0, or no context of its VTL shares a bit with its mask.
+pub fn lacks(contexts: &[u32; 3], mask: u32, vp: u16, vtl: u8) -> bool
     requires { ⌜ length (now contexts) ≡ 3 ⌝ }
     ensures { λ r. ⌜ r ≡ not (eqb vp 0 && shares (getD (now (contexts .entry)) vtl 0) mask) ⌝ }
 {

@@ -1,11 +1,11 @@
 -- One row more among the directive rows that are in order.
 -- Assumes nothing.
-use Rattle.rows.{proofs.Kit.{ℕ, _+_, _-_, _≤_, _<_, arith, _≡_, refl, sym, ap, _∙_, Bool, true, false, _&&_, _||_, or-false, none, List, [], eqb, length, take, drop, eqb-false}, specs.Rows.{Rows, any, before}, proofs.Bools.or-false-parts, proofs.BelowLaws.any-more}
+use Rattle.rows.{proofs.Kit.{ℕ, _+_, _-_, _≤_, _<_, arith, _≡_, refl, sym, ap, _∙_, Bool, true, false, _&&_, _||_, or-false, none, List, [], eqb, length, take, drop}, specs.Rows.{Rows, any, before}, proofs.Bools.or-false-parts, proofs.BelowLaws.any-more}
 use Rattle.igvm_defs.{specs.declared.Arch.Arch, specs.Kinds.{kindOf, directiveList}, specs.Refusals.isFault}
 use Rattle.sheet.{specs.declared.Cursor.Cursor, specs.Head.{headOf, rowCount, firstDirective}, specs.Table.{rowKind, rowLength, bodyOf, offsetOf}, specs.Walk.ReadTo, proofs.Readable.{RowOk, directive-list, body-length}, proofs.ReadLaws.read-more}
 use Rattle.initialization_header.specs.declared.IgvmInitializationHeader.{IgvmInitializationHeader}
 use Rattle.directive_header.{specs.declared.IgvmDirectiveHeader.IgvmDirectiveHeader, specs.Directives.directiveOf, specs.Fields.{kindNumber, areaOf, isParameter}, proofs.DirectiveLaws.{kind-directive, area-directive}}
-use Rattle.rules.{specs.Directives.{allocates, inserts, badArea, insideTable}, specs.Verdict.directiveFaults, proofs.Acceptance.{directive-says, inside-table}}
+use Rattle.rules.{specs.Directives.{allocates, inserts, badArea, insideTable}, specs.Verdict.directiveFaults, proofs.Acceptance.directive-says}
 use Rattle.directive_check.{specs.Record.namesArea, proofs.DirectiveRecordLaws.{holds-next, names-no-area}}
 use Rattle.sheet_headers.specs.Headers.{sheetHeaders}
 use Rattle.directive_body.specs.Sound.{Sound}
@@ -40,9 +40,7 @@ module _ (kind : ℕ) (b : List ℕ) (list : kindOf kind .list ≡ directiveList
 
   pub unnamed-table : (is : Rows IgvmInitializationHeader) → insideTable is (directiveOf kind b) ≡ false
   unfolding namesArea
-  unnamed-table is =
-      let f = or-false-parts (eqb kind 33 || isParameter kind) (eqb kind 50) names .1 in
-      inside-table is (directiveOf kind b) .1 (λ p e j r k o. absurd (eqb-false kind 50 f (sym (kind-directive kind list b) ∙ ap kindNumber e)))
+  unnamed-table is = rw (kind-directive kind list b, or-false-parts (eqb kind 33 || isParameter kind) (eqb kind 50) names .1)
 
 -- ---- one row more
 

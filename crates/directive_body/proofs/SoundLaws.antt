@@ -6,12 +6,12 @@ use Rattle.igvm_defs.{specs.declared.Arch.Arch, specs.Kinds.{kindOf, spans, len
 use Rattle.sheet.specs.Read.{codesOk}
 use Rattle.directive_header.specs.Directives.{directiveOf}
 use Rattle.addresses.specs.Addresses.{isMultiple, onPage}
-use Rattle.rules.{specs.Accepted.ownDirectiveFault, specs.Directives.wrongArch}
+use Rattle.rules.specs.Directives.{ownDirectiveFault, wrongContextArch}
 use Rattle.directive_body.specs.Sound.{Sound}
 
 module _ (arch : Arch) (b : List ℕ) where
   pub page-sound : 18 ≤ length b → length b ≤ 4114 → leAt 8 b 0 % 4096 + leAt 2 b 16 / 4 ≡ 0 → Sound arch 32 b
-  unfolding kindOf spans lengthOk codesOk ownDirectiveFault directiveOf wrongArch isFault isMultiple
+  unfolding kindOf spans lengthOk codesOk ownDirectiveFault directiveOf wrongContextArch isFault isMultiple
   page-sound l h e =
       let p : leAt 8 b 0 % 4096 ≡ 0 = omega arith in
       let t : leAt 2 b 16 ≤ 3 = omega arith in
@@ -23,7 +23,7 @@ module _ (arch : Arch) (b : List ℕ) where
       }
 
   pub area-sound : 12 ≤ length b → onPage (leAt 8 b 0) ≡ true → length b - 12 ≤ leAt 8 b 0 → Sound arch 33 b
-  unfolding kindOf spans lengthOk codesOk ownDirectiveFault directiveOf wrongArch isFault
+  unfolding kindOf spans lengthOk codesOk ownDirectiveFault directiveOf wrongContextArch isFault
   area-sound l p h =
       record {
         list = refl;
@@ -33,13 +33,13 @@ module _ (arch : Arch) (b : List ℕ) where
       }
 
   pub memory-sound : length b ≡ 17 → leb (byteAt b 16) 1 ≡ true → onPage (leAt 8 b 0) ≡ true → onPage (leAt 4 b 12) ≡ true → Sound arch 44 b
-  unfolding kindOf spans lengthOk codesOk ownDirectiveFault directiveOf wrongArch isFault
+  unfolding kindOf spans lengthOk codesOk ownDirectiveFault directiveOf wrongContextArch isFault
   memory-sound l c p q = record { list = refl; long = rw l; codes = c; own = rw (p, q) }
 
   pub snp-sound : 14 ≤ length b → onPage (leAt 8 b 0) ≡ true → Sound arch 45 b
-  unfolding kindOf spans lengthOk codesOk ownDirectiveFault directiveOf wrongArch isFault
+  unfolding kindOf spans lengthOk codesOk ownDirectiveFault directiveOf wrongContextArch isFault
   snp-sound l p = record { list = refl; long = le-leb 14 (length b) l; codes = refl; own = rw p }
 
   pub range-sound : length b ≡ 16 → onPage (leAt 8 b 0) ≡ true → Sound arch 51 b
-  unfolding kindOf spans lengthOk codesOk ownDirectiveFault directiveOf wrongArch isFault
+  unfolding kindOf spans lengthOk codesOk ownDirectiveFault directiveOf wrongContextArch isFault
   range-sound l p = record { list = refl; long = rw l; codes = refl; own = rw p }

@@ -9,7 +9,7 @@ use Rattle.igvm_defs.specs.Kinds.{kindOf, lengthOk, directiveList}
 use Rattle.igvm_defs.specs.Refusals.{isFault}
 use Rattle.sheet.specs.Read.{codesOk}
 use Rattle.directive_header.specs.Directives.{directiveOf}
-use Rattle.rules.specs.Accepted.{ownDirectiveFault}
+use Rattle.rules.specs.Directives.{ownDirectiveFault}
 
 -- by itself: length, codes, and what the rules ask of the header alone
 pub record Sound (arch : Arch) (kind : ℕ) (b : List ℕ) : Type 0 where

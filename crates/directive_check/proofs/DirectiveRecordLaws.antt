@@ -1,10 +1,10 @@
 -- Laws of the contexts' masks, and of the area rule over numbers.
 -- Assumes nothing.
 use Rattle.rows.{proofs.Kit.{ℕ, zero, suc, _+_, _<_, arith, _≡_, refl, sym, ap, _∙_, Bool, true, false, cond, not, _&&_, _||_, or-false, List, [], _∷_, none, bitOr, eqb, length, getD, set, replicate, getD-set-same, getD-set-other, eqb-true, eqb-false}, specs.Below.anyBelow, specs.Rows.{Rows, any, before}, proofs.BelowLaws.any-more, proofs.Bools.or-false-parts}
-use Rattle.igvm_defs.{specs.Kinds.{kindOf, directiveList}, proofs.KindLaws.directive-kind, proofs.Runs.{each, _⨾_}}
-use Rattle.directive_header.{specs.declared.IgvmDirectiveHeader.IgvmDirectiveHeader, specs.declared.IgvmDirectiveHeader.the-variants.{PageData, ParameterArea, VpCount, EnvironmentInfo, Srat, Madt, Slit, Pptt, MmioRanges, MemoryMap, CommandLine, DeviceTree, RequiredMemory, SnpVpContext, X64NativeVpContext, X64VbsVpContext, AArch64VbsVpContext, AArch64CcaVpContext, ParameterInsert, ErrorRange, SnpIdBlock, VbsMeasurement}, specs.Directives.directiveOf, specs.Fields.{kindNumber, areaOf, isParameter, areaNamed}}
+use Rattle.igvm_defs.specs.Kinds.{kindOf, directiveList}
+use Rattle.directive_header.{specs.declared.IgvmDirectiveHeader.IgvmDirectiveHeader, specs.declared.IgvmDirectiveHeader.the-variants.{PageData, ParameterArea, VpCount, EnvironmentInfo, Srat, Madt, Slit, Pptt, MmioRanges, MemoryMap, CommandLine, DeviceTree, RequiredMemory, SnpVpContext, X64NativeVpContext, X64VbsVpContext, AArch64VbsVpContext, AArch64CcaVpContext, ParameterInsert, ErrorRange, SnpIdBlock, VbsMeasurement}, specs.Directives.directiveOf, proofs.DirectiveLaws.kind-directive, specs.Fields.{kindNumber, areaOf, isParameter, areaNamed}}
 use Rattle.masks.{specs.Masks.shares, proofs.MaskLaws.{shares-zero-left, shares-or}}
-use Rattle.rules.{specs.declared.Region.Region, specs.Directives.{testArea, allocates, inserts, isAllocated, badArea, isContext, noContext}}
+use Rattle.rules.{specs.declared.Region.Region, specs.Options.passes, specs.Directives.{allocates, inserts, isAllocated, badArea, isContext, noContext}}
 use Rattle.directive_check.specs.Record.{HoldsContexts, lacksContext, howOf, howNamed, namesArea, areaNumber}
 
 -- ---- contexts
@@ -64,11 +64,11 @@ lacks-says contexts ds r h = rw (h (r .vtl) (r .mask))
 record SaysHow (h : IgvmDirectiveHeader) : Type 0 where
   allocated : (x : ℕ) → allocates x h ≡ (eqb (howOf h) 0 && eqb x (areaNumber (areaOf h)))
   inserted : (x : ℕ) → inserts x h ≡ (eqb (howOf h) 2 && eqb x (areaNumber (areaOf h)))
-  tested : (p q : ℕ → Bool) → testArea (λ x. cond (eqb (kindNumber h) 33) (p x) (q x)) (areaOf h)
+  tested : (p q : ℕ → Bool) → passes (λ x. cond (eqb (kindNumber h) 33) (p x) (q x)) (areaOf h)
       ≡ cond (eqb (howOf h) 3) false (cond (eqb (howOf h) 0) (p (areaNumber (areaOf h))) (q (areaNumber (areaOf h))))
 
 says-how : (h : IgvmDirectiveHeader) → SaysHow h
-unfolding allocates inserts
+unfolding allocates inserts howNamed
 says-how (PageData a b c d e) = record { allocated = λ x. refl; inserted = λ x. refl; tested = λ p q. refl }
 says-how (ParameterArea a b c) = record { allocated = λ x. refl; inserted = λ x. refl; tested = λ p q. refl }
 says-how (VpCount a) = record { allocated = λ x. refl; inserted = λ x. refl; tested = λ p q. refl }
@@ -94,12 +94,7 @@ says-how (VbsMeasurement a b) = record { allocated = λ x. refl; inserted = λ x
 
 -- a header names an area as its row does
 pub how-directive : (kind : ℕ) → kindOf kind .list ≡ directiveList → (b : List ℕ) → howOf (directiveOf kind b) ≡ howNamed kind
-unfolding directiveOf howNamed
-how-directive kind l =
-    let (p, q) = directive-kind kind l in
-    each (λ k. (b : List ℕ) → howOf (directiveOf k b) ≡ howNamed k) 32 22 (
-    (λ b. refl) ⨾ (λ b. refl) ⨾ (λ b. refl) ⨾ (λ b. refl) ⨾ (λ b. refl) ⨾ (λ b. refl) ⨾ (λ b. refl) ⨾ (λ b. refl) ⨾ (λ b. refl) ⨾ (λ b. refl) ⨾ (λ b. refl) ⨾
-    (λ b. refl) ⨾ (λ b. refl) ⨾ (λ b. refl) ⨾ (λ b. refl) ⨾ (λ b. refl) ⨾ (λ b. refl) ⨾ (λ b. refl) ⨾ (λ b. refl) ⨾ (λ b. refl) ⨾ (λ b. refl) ⨾ (λ b. refl) ⨾ tt) kind p q
+how-directive kind l b = ap howNamed (kind-directive kind l b)
 
 -- a row of any other kind names none
 pub names-no-area : (kind : ℕ) → namesArea kind ≡ false → (b : List ℕ) → areaNamed kind b ≡ none

@@ -11,8 +11,7 @@ use Rattle.igvm_defs.specs.declared.Arch.{Arch}
 use Rattle.igvm_defs.specs.declared.Fault.{Fault}
 use Rattle.initialization_header.specs.declared.IgvmInitializationHeader.{IgvmInitializationHeader}
 use Rattle.directive_header.specs.declared.IgvmDirectiveHeader.{IgvmDirectiveHeader}
-use Rattle.directive_header.specs.declared.IgvmDirectiveHeader.the-variants.{PageData, ParameterArea, VpCount, EnvironmentInfo, Srat, Madt, Slit, Pptt, MmioRanges, MemoryMap, CommandLine, DeviceTree, RequiredMemory, SnpVpContext, X64NativeVpContext, X64VbsVpContext, AArch64VbsVpContext, AArch64CcaVpContext, ParameterInsert, ErrorRange, SnpIdBlock, VbsMeasurement}
-use Rattle.directive_header.specs.Fields.{isParameter}
+use Rattle.directive_header.specs.Fields.{kindNumber, isParameter}
 use Rattle.masks.specs.Masks.{shares}
 use Rattle.rules.specs.declared.Region.{Region}
 use Rattle.rules.specs.Directives.{directiveFault, isContext}
@@ -30,39 +29,18 @@ pub record DirectiveStepped (arch : Arch) (is : Rows IgvmInitializationHeader) (
   pub told : f ≡ directiveFault arch is (before i xs) (xs .row i)
   pub next : HoldsContexts contexts (before (i + 1) xs)
 
--- ---- the area rule over numbers: how a header names an area (0 allocates, 1 uses, 2 inserts, 3 names none), and which
+-- ---- the area rule over numbers: how a row of a kind names an area (0 allocates, 1 uses, 2 inserts, 3 names none), and which
 
-abbrev pub howOf : IgvmDirectiveHeader → ℕ
-howOf (PageData gpa mask flags type size) = 3
-howOf (ParameterArea bytes area size) = 0
-howOf (VpCount p) = 1
-howOf (EnvironmentInfo p) = 1
-howOf (Srat p) = 1
-howOf (Madt p) = 1
-howOf (Slit p) = 1
-howOf (Pptt p) = 1
-howOf (MmioRanges p) = 1
-howOf (MemoryMap p) = 1
-howOf (CommandLine p) = 1
-howOf (DeviceTree p) = 1
-howOf (RequiredMemory gpa mask bytes protectable) = 3
-howOf (SnpVpContext gpa mask vp vmsa) = 3
-howOf (X64NativeVpContext mask vp context) = 3
-howOf (X64VbsVpContext vtl registers mask) = 3
-howOf (AArch64VbsVpContext vtl registers mask) = 3
-howOf (AArch64CcaVpContext mask vp context) = 3
-howOf (ParameterInsert p) = 2
-howOf (ErrorRange gpa mask bytes) = 3
-howOf (SnpIdBlock mask opaque) = 3
-howOf (VbsMeasurement mask opaque) = 3
-
--- the same of a row, from its kind
 unfoldable pub howNamed : ℕ → ℕ
 howNamed kind =
     cond (eqb kind 33) 0
     (cond (isParameter kind) 1
     (cond (eqb kind 50) 2
     3))
+
+-- the same of a header
+abbrev pub howOf : IgvmDirectiveHeader → ℕ
+howOf h = howNamed (kindNumber h)
 
 -- whether a row of this kind names an area
 unfoldable pub namesArea : ℕ → Bool

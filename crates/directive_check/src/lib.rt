@@ -1,7 +1,7 @@
 // Directive headers: refusals 21, 22, 24 and 30 to 33 header by header, and the contexts' masks.
 ghost use mathlib.Core.Path.{_≡_};
-ghost use mathlib.Core.Bool.{not, _&&_, _||_};
-ghost use lib.Dec.{eqb, ltb};
+ghost use mathlib.Core.Bool.{_&&_, _||_};
+ghost use lib.Dec.{eqb};
 ghost use lib.ListN.{getD, length};
 ghost use Prim.Native.Nat.{ℕ, _+_, _≤_};
 ghost use Rattle.rows.specs.Rows.{Rows, before};
@@ -11,65 +11,14 @@ ghost use Rattle.igvm_defs.specs.Refusals.{fault, noFault, refuse};
 ghost use Rattle.igvm_defs.specs.Vtls.{vtlNumber};
 ghost use Rattle.igvm_defs.specs.Kinds.{kindOf};
 ghost use Rattle.masks.specs.Masks.{shares};
-ghost use Rattle.addresses.specs.Addresses.{onPage};
 ghost use Rattle.directive_header.specs.Fields.{kindNumber, isParameter, areaNamed};
-ghost use Rattle.rules.specs.Directives.{validateDirective, wrongArch, badArea, insideTable};
+ghost use Rattle.rules.specs.Directives.{validateDirective, wrongContextArch, badArea, insideTable};
 ghost use Rattle.directive_check.specs.Record.{HoldsContexts, lacksContext, howNamed, areaNumber, DirectiveStepped};
 use directive_header::IgvmDirectiveHeader;
 use igvm_defs::Arch;
 use igvm_defs::Fault;
 use igvm_defs::Vtl;
 use rules::Region;
-
-// 21 alone.
-fn gpa_fault(gpa: u64) -> Fault
-    ensures { λ r. ⌜ r ≡ refuse (not (onPage gpa)) (fault 21 gpa) noFault ⌝ }
-{
-    igvm_defs::refuse(!addresses::on_page(gpa), 21, gpa, Fault::NONE)
-}
-
-fn page_data_fault(gpa: u64, data_type: u16, data: usize) -> Fault
-    ensures { λ r. ⌜ r ≡ refuse (not (onPage gpa)) (fault 21 gpa) (refuse (ltb 3 «data_type») (fault 30 0) (refuse (ltb 4096 «data») (fault 31 0) noFault)) ⌝ }
-{
-    igvm_defs::refuse(
-        !addresses::on_page(gpa),
-        21,
-        gpa,
-        igvm_defs::refuse(
-            3 < data_type,
-            30,
-            0,
-            igvm_defs::refuse(4096 < data, 31, 0, Fault::NONE),
-        ),
-    )
-}
-
-fn parameter_area_fault(bytes: u64, data: usize) -> Fault
-    ensures { λ r. ⌜ r ≡ refuse (not (onPage bytes)) (fault 22 bytes) (refuse (ltb bytes «data») (fault 31 0) noFault) ⌝ }
-{
-    igvm_defs::refuse(
-        !addresses::on_page(bytes),
-        22,
-        bytes,
-        igvm_defs::refuse(bytes < data as u64, 31, 0, Fault::NONE),
-    )
-}
-
-fn required_memory_fault(gpa: u64, bytes: u32) -> Fault
-    ensures { λ r. ⌜ r ≡ refuse (not (onPage gpa)) (fault 21 gpa) (refuse (not (onPage bytes)) (fault 22 bytes) noFault) ⌝ }
-{
-    igvm_defs::refuse(
-        !addresses::on_page(gpa),
-        21,
-        gpa,
-        igvm_defs::refuse(
-            !addresses::on_page(bytes as u64),
-            22,
-            bytes as u64,
-            Fault::NONE,
-        ),
-    )
-}
 
 // The header alone: 21, 30, 22, 31.
 pub fn validate(h: IgvmDirectiveHeader) -> Fault
@@ -81,46 +30,57 @@ pub fn validate(h: IgvmDirectiveHeader) -> Fault
             data_type,
             data,
             ..
-        } => page_data_fault(gpa, data_type, data),
+        } => Fault::NONE
+            .or(21, gpa, !addresses::on_page(gpa))
+            .or(30, 0, 3 < data_type)
+            .or(31, 0, 4096 < data),
         IgvmDirectiveHeader::ParameterArea {
             number_of_bytes,
             initial_data,
             ..
-        } => parameter_area_fault(number_of_bytes, initial_data),
+        } => Fault::NONE
+            .or(22, number_of_bytes, !addresses::on_page(number_of_bytes))
+            .or(31, 0, number_of_bytes < initial_data as u64),
         IgvmDirectiveHeader::RequiredMemory {
             gpa,
             number_of_bytes,
             ..
-        } => required_memory_fault(gpa, number_of_bytes),
-        IgvmDirectiveHeader::SnpVpContext { gpa, .. } => gpa_fault(gpa),
-        IgvmDirectiveHeader::ParameterInsert(p) => gpa_fault(p.gpa),
-        IgvmDirectiveHeader::ErrorRange { gpa, .. } => gpa_fault(gpa),
+        } => Fault::NONE.or(21, gpa, !addresses::on_page(gpa)).or(
+            22,
+            number_of_bytes as u64,
+            !addresses::on_page(number_of_bytes as u64),
+        ),
+        IgvmDirectiveHeader::SnpVpContext { gpa, .. } => Fault::NONE.or(
+            21,
+            gpa,
+            !addresses::on_page(gpa),
+        ),
+        IgvmDirectiveHeader::ParameterInsert(p) => Fault::NONE.or(
+            21,
+            p.gpa,
+            !addresses::on_page(p.gpa),
+        ),
+        IgvmDirectiveHeader::ErrorRange { gpa, .. } => Fault::NONE.or(
+            21,
+            gpa,
+            !addresses::on_page(gpa),
+        ),
         _ => Fault::NONE,
     }
 }
 
 // 24: a VP context against the architecture, with its kind.
-fn arch_fault(arch: Arch, h: IgvmDirectiveHeader, later: Fault) -> Fault
-    ensures { λ r. ⌜ r ≡ refuse (wrongArch arch h) (fault 24 (kindNumber h)) later ⌝ }
+fn arch_fault(arch: Arch, h: IgvmDirectiveHeader) -> Fault
+    ensures { λ r. ⌜ r ≡ refuse (wrongContextArch arch (kindNumber h)) (fault 24 (kindNumber h)) noFault ⌝ }
 {
     let x64 = arch.is_x64();
     let aarch64 = arch.is_aarch64();
     match h {
-        IgvmDirectiveHeader::X64NativeVpContext { .. } => igvm_defs::refuse(!x64, 24, 46, later),
-        IgvmDirectiveHeader::X64VbsVpContext { .. } => igvm_defs::refuse(!x64, 24, 47, later),
-        IgvmDirectiveHeader::AArch64VbsVpContext { .. } => igvm_defs::refuse(
-            !aarch64,
-            24,
-            48,
-            later,
-        ),
-        IgvmDirectiveHeader::AArch64CcaVpContext { .. } => igvm_defs::refuse(
-            !aarch64,
-            24,
-            49,
-            later,
-        ),
-        _ => later,
+        IgvmDirectiveHeader::X64NativeVpContext { .. } => Fault::NONE.or(24, 46, !x64),
+        IgvmDirectiveHeader::X64VbsVpContext { .. } => Fault::NONE.or(24, 47, !x64),
+        IgvmDirectiveHeader::AArch64VbsVpContext { .. } => Fault::NONE.or(24, 48, !aarch64),
+        IgvmDirectiveHeader::AArch64CcaVpContext { .. } => Fault::NONE.or(24, 49, !aarch64),
+        _ => Fault::NONE,
     }
 }
 
@@ -155,20 +115,10 @@ fn contexts_after(contexts: [u32; 3], h: IgvmDirectiveHeader) -> [u32; 3]
     }
 }
 
-fn mask_of_vtl(contexts: [u32; 3], vtl: u8) -> u32
-    ensures { λ r. ⌜ r ≡ getD contexts vtl 0 ⌝ }
-{
-    if vtl < 3 {
-        let v = vtl as usize;
-        return contexts[v];
-    }
-    0
-}
-
 pub fn lacks_context(contexts: [u32; 3], r: Region) -> bool
     ensures { λ s. ⌜ s ≡ lacksContext contexts r ⌝ }
 {
-    !((r.vp_index == 0) & masks::shares(mask_of_vtl(contexts, r.vtl), r.mask))
+    contexts::lacks(&contexts, r.mask, r.vp_index, r.vtl)
 }
 
 // ---- areas: how a row names an area (0 allocates, 1 uses, 2 inserts, 3 names none), and which
@@ -220,8 +170,9 @@ pub fn step(
 ) -> DirectiveStep
     ensures { λ r. ⌜ ((is : Rows IgvmInitializationHeader) (xs : Rows IgvmDirectiveHeader) (i : ℕ) → h ≡ xs .row i → bad ≡ badArea (before i xs) h → inside ≡ insideTable is h → HoldsContexts contexts (before i xs) → DirectiveStepped arch is xs i (r .fault) (r .contexts)) ⌝ }
 {
-    let later = igvm_defs::refuse(bad, 32, 0, igvm_defs::refuse(inside, 33, 0, Fault::NONE));
-    let fault = igvm_defs::or_fault(validate(h), arch_fault(arch, h, later));
+    let fault = igvm_defs::or_fault(validate(h), arch_fault(arch, h))
+        .or(32, 0, bad)
+        .or(33, 0, inside);
     let next = contexts_after(contexts, h);
     DirectiveStep {
         contexts: next,

@@ -2,10 +2,10 @@
 -- Assumes nothing.
 use mir.Val.{hasKey}
 use types.Run.{OneOf}
-use Rattle.rows.proofs.Kit.{_≡_, refl, false, not, _||_, true≢false, List, none, ℕ, _+_, T, eqb, tagOf}
+use Rattle.rows.proofs.Kit.{_≡_, refl, false, not, List, ℕ, _+_, T, eqb, tagOf}
 use Rattle.le.proofs.LeLaws.{le-read, byte-read}
 use Rattle.igvm_defs.{specs.Kinds.{directiveList, kindOf, spans, fields}, proofs.KindLaws.{Local, LocalAt, directive-kind}, proofs.Runs.{each, _⨾_}, proofs.Tags.not-number}
-use Rattle.directive_header.specs.{declared.IgvmDirectiveHeader.IgvmDirectiveHeader, declared.IgvmDirectiveHeader.the-variants.{PageData, ParameterArea, VpCount, EnvironmentInfo, Srat, Madt, Slit, Pptt, MmioRanges, MemoryMap, CommandLine, DeviceTree, RequiredMemory, SnpVpContext, X64NativeVpContext, X64VbsVpContext, AArch64VbsVpContext, AArch64CcaVpContext, ParameterInsert, ErrorRange, SnpIdBlock, VbsMeasurement}, Directives.directiveOf, Fields.{kindNumber, areaOf, isParameter, areaNamed}}
+use Rattle.directive_header.specs.{declared.IgvmDirectiveHeader.IgvmDirectiveHeader, declared.IgvmDirectiveHeader.the-variants.{PageData, ParameterArea, VpCount, EnvironmentInfo, Srat, Madt, Slit, Pptt, MmioRanges, MemoryMap, CommandLine, DeviceTree, RequiredMemory, SnpVpContext, X64NativeVpContext, X64VbsVpContext, AArch64VbsVpContext, AArch64CcaVpContext, ParameterInsert, ErrorRange, SnpIdBlock, VbsMeasurement}, Directives.directiveOf, Fields.{kindNumber, areaOf, areaNamed}}
 use Rattle.directive_header.proofs.IgvmDirectiveHeader.{the-type}
 
 -- a header says no more than the kind, the body's length and its fields
@@ -55,31 +55,6 @@ area-directive kind l =
     each (λ k. (b : List ℕ) → areaOf (directiveOf k b) ≡ areaNamed k b) 32 22 (
     (λ b. refl) ⨾ (λ b. refl) ⨾ (λ b. refl) ⨾ (λ b. refl) ⨾ (λ b. refl) ⨾ (λ b. refl) ⨾ (λ b. refl) ⨾ (λ b. refl) ⨾ (λ b. refl) ⨾ (λ b. refl) ⨾ (λ b. refl) ⨾
     (λ b. refl) ⨾ (λ b. refl) ⨾ (λ b. refl) ⨾ (λ b. refl) ⨾ (λ b. refl) ⨾ (λ b. refl) ⨾ (λ b. refl) ⨾ (λ b. refl) ⨾ (λ b. refl) ⨾ (λ b. refl) ⨾ (λ b. refl) ⨾ tt) kind p q
-
--- a header of any other kind than 33, 34 to 43 and 50 names no area
-pub area-none : (h : IgvmDirectiveHeader) → (eqb (kindNumber h) 33 || isParameter (kindNumber h) || eqb (kindNumber h) 50) ≡ false → areaOf h ≡ none
-area-none (PageData a b c d e) t = refl
-area-none (ParameterArea a b c) t = absurd (true≢false t)
-area-none (VpCount a) t = absurd (true≢false t)
-area-none (EnvironmentInfo a) t = absurd (true≢false t)
-area-none (Srat a) t = absurd (true≢false t)
-area-none (Madt a) t = absurd (true≢false t)
-area-none (Slit a) t = absurd (true≢false t)
-area-none (Pptt a) t = absurd (true≢false t)
-area-none (MmioRanges a) t = absurd (true≢false t)
-area-none (MemoryMap a) t = absurd (true≢false t)
-area-none (CommandLine a) t = absurd (true≢false t)
-area-none (DeviceTree a) t = absurd (true≢false t)
-area-none (RequiredMemory a b c d) t = refl
-area-none (SnpVpContext a b c d) t = refl
-area-none (X64NativeVpContext a b c) t = refl
-area-none (X64VbsVpContext a b c) t = refl
-area-none (AArch64VbsVpContext a b c) t = refl
-area-none (AArch64CcaVpContext a b c) t = refl
-area-none (ParameterInsert a) t = absurd (true≢false t)
-area-none (ErrorRange a b c) t = refl
-area-none (SnpIdBlock a b) t = refl
-area-none (VbsMeasurement a b) t = refl
 
 -- ---- what an arm of a `match` knows that binds nothing
 

@@ -1,86 +1,61 @@
--- What each directive header has: its kind's number, its compatibility mask, the parameter area that it names.
+-- What the rules ask of a directive header, in the words of document 01's table, and the parameter area that a row names.
 use Prim.Native.Nat.{ℕ}
-use mathlib.Core.Bool.{Bool, cond, _&&_}
-use mathlib.Core.List.{List}
-use mathlib.Core.Option.{Option, none, some}
+use mathlib.Core.{Bool.{Bool, cond, _&&_}, List.List, Option.{Option, none, some}}
 use lib.Dec.{eqb, leb}
 use Rattle.le.specs.Le.{leAt}
-use Rattle.directive_header.specs.declared.IgvmDirectiveHeader.{IgvmDirectiveHeader}
-use Rattle.directive_header.specs.declared.IgvmDirectiveHeader.the-variants.{PageData, ParameterArea, VpCount, EnvironmentInfo, Srat, Madt, Slit, Pptt, MmioRanges, MemoryMap, CommandLine, DeviceTree, RequiredMemory, SnpVpContext, X64NativeVpContext, X64VbsVpContext, AArch64VbsVpContext, AArch64CcaVpContext, ParameterInsert, ErrorRange, SnpIdBlock, VbsMeasurement}
+use Rattle.igvm_defs.specs.Vtls.{vtlNumber}
+use Rattle.directive_header.specs.declared.{«IGVM_VHS_PARAMETER».«IGVM_VHS_PARAMETER», IgvmDirectiveHeader.IgvmDirectiveHeader, IgvmDirectiveHeader.the-variants.{PageData, ParameterArea, VpCount, EnvironmentInfo, Srat, Madt, Slit, Pptt, MmioRanges, MemoryMap, CommandLine, DeviceTree, RequiredMemory, SnpVpContext, X64NativeVpContext, X64VbsVpContext, AArch64VbsVpContext, AArch64CcaVpContext, ParameterInsert, ErrorRange, SnpIdBlock, VbsMeasurement}}
+
+-- 0 or none where a header has no such field
+pub record DirectiveFields : Type 0 where
+  pub kind : ℕ
+  pub gpa : ℕ
+  pub mask : ℕ
+  pub bytes : ℕ
+  pub area : Option ℕ
+  pub type : ℕ
+  pub vtl : ℕ
+  -- how many bytes follow the fields
+  pub tail : ℕ
+
+-- kind, gpa, mask, bytes, area, type, VTL, tail
+abbrev pub fieldsFrom : ℕ → ℕ → ℕ → ℕ → Option ℕ → ℕ → ℕ → ℕ → DirectiveFields
+fieldsFrom kind gpa mask bytes area type vtl tail =
+    record { kind = kind; gpa = gpa; mask = mask; bytes = bytes; area = area; type = type; vtl = vtl; tail = tail }
+
+abbrev pub parameterFields : ℕ → «IGVM_VHS_PARAMETER» → DirectiveFields
+parameterFields kind p = fieldsFrom kind 0 0 0 (some (p .«parameter_area_index»)) 0 0 0
+
+abbrev pub directiveFields : IgvmDirectiveHeader → DirectiveFields
+directiveFields (PageData gpa mask flags type tail) = fieldsFrom 32 gpa mask 0 none type 0 tail
+directiveFields (ParameterArea bytes area tail) = fieldsFrom 33 0 0 bytes (some area) 0 0 tail
+directiveFields (VpCount p) = parameterFields 34 p
+directiveFields (EnvironmentInfo p) = parameterFields 35 p
+directiveFields (Srat p) = parameterFields 36 p
+directiveFields (Madt p) = parameterFields 37 p
+directiveFields (Slit p) = parameterFields 38 p
+directiveFields (Pptt p) = parameterFields 39 p
+directiveFields (MmioRanges p) = parameterFields 40 p
+directiveFields (MemoryMap p) = parameterFields 41 p
+directiveFields (CommandLine p) = parameterFields 42 p
+directiveFields (DeviceTree p) = parameterFields 43 p
+directiveFields (RequiredMemory gpa mask bytes protectable) = fieldsFrom 44 gpa mask bytes none 0 0 0
+directiveFields (SnpVpContext gpa mask vp tail) = fieldsFrom 45 gpa mask 0 none 0 0 tail
+directiveFields (X64NativeVpContext mask vp tail) = fieldsFrom 46 0 mask 0 none 0 0 tail
+directiveFields (X64VbsVpContext vtl tail mask) = fieldsFrom 47 0 mask 0 none 0 (vtlNumber vtl) tail
+directiveFields (AArch64VbsVpContext vtl tail mask) = fieldsFrom 48 0 mask 0 none 0 (vtlNumber vtl) tail
+directiveFields (AArch64CcaVpContext mask vp tail) = fieldsFrom 49 0 mask 0 none 0 0 tail
+directiveFields (ParameterInsert p) = fieldsFrom 50 (p .gpa) (p .«compatibility_mask») 0 (some (p .«parameter_area_index»)) 0 0 0
+directiveFields (ErrorRange gpa mask bytes) = fieldsFrom 51 gpa mask bytes none 0 0 0
+directiveFields (SnpIdBlock mask tail) = fieldsFrom 52 0 mask 0 none 0 0 tail
+directiveFields (VbsMeasurement mask tail) = fieldsFrom 53 0 mask 0 none 0 0 tail
 
 abbrev pub kindNumber : IgvmDirectiveHeader → ℕ
-kindNumber (PageData gpa mask flags type size) = 32
-kindNumber (ParameterArea bytes area size) = 33
-kindNumber (VpCount p) = 34
-kindNumber (EnvironmentInfo p) = 35
-kindNumber (Srat p) = 36
-kindNumber (Madt p) = 37
-kindNumber (Slit p) = 38
-kindNumber (Pptt p) = 39
-kindNumber (MmioRanges p) = 40
-kindNumber (MemoryMap p) = 41
-kindNumber (CommandLine p) = 42
-kindNumber (DeviceTree p) = 43
-kindNumber (RequiredMemory gpa mask bytes protectable) = 44
-kindNumber (SnpVpContext gpa mask vp size) = 45
-kindNumber (X64NativeVpContext mask vp size) = 46
-kindNumber (X64VbsVpContext vtl size mask) = 47
-kindNumber (AArch64VbsVpContext vtl size mask) = 48
-kindNumber (AArch64CcaVpContext mask vp size) = 49
-kindNumber (ParameterInsert p) = 50
-kindNumber (ErrorRange gpa mask bytes) = 51
-kindNumber (SnpIdBlock mask size) = 52
-kindNumber (VbsMeasurement mask size) = 53
-
--- a parameter area and the parameters have none
-abbrev pub maskOf : IgvmDirectiveHeader → Option ℕ
-maskOf (PageData gpa mask flags type size) = some mask
-maskOf (ParameterArea bytes area size) = none
-maskOf (VpCount p) = none
-maskOf (EnvironmentInfo p) = none
-maskOf (Srat p) = none
-maskOf (Madt p) = none
-maskOf (Slit p) = none
-maskOf (Pptt p) = none
-maskOf (MmioRanges p) = none
-maskOf (MemoryMap p) = none
-maskOf (CommandLine p) = none
-maskOf (DeviceTree p) = none
-maskOf (RequiredMemory gpa mask bytes protectable) = some mask
-maskOf (SnpVpContext gpa mask vp size) = some mask
-maskOf (X64NativeVpContext mask vp size) = some mask
-maskOf (X64VbsVpContext vtl size mask) = some mask
-maskOf (AArch64VbsVpContext vtl size mask) = some mask
-maskOf (AArch64CcaVpContext mask vp size) = some mask
-maskOf (ParameterInsert p) = some (p .«compatibility_mask»)
-maskOf (ErrorRange gpa mask bytes) = some mask
-maskOf (SnpIdBlock mask size) = some mask
-maskOf (VbsMeasurement mask size) = some mask
+kindNumber h = directiveFields h .kind
 
 -- 33, 34 to 43 and 50
 abbrev pub areaOf : IgvmDirectiveHeader → Option ℕ
-areaOf (PageData gpa mask flags type size) = none
-areaOf (ParameterArea bytes area size) = some area
-areaOf (VpCount p) = some (p .«parameter_area_index»)
-areaOf (EnvironmentInfo p) = some (p .«parameter_area_index»)
-areaOf (Srat p) = some (p .«parameter_area_index»)
-areaOf (Madt p) = some (p .«parameter_area_index»)
-areaOf (Slit p) = some (p .«parameter_area_index»)
-areaOf (Pptt p) = some (p .«parameter_area_index»)
-areaOf (MmioRanges p) = some (p .«parameter_area_index»)
-areaOf (MemoryMap p) = some (p .«parameter_area_index»)
-areaOf (CommandLine p) = some (p .«parameter_area_index»)
-areaOf (DeviceTree p) = some (p .«parameter_area_index»)
-areaOf (RequiredMemory gpa mask bytes protectable) = none
-areaOf (SnpVpContext gpa mask vp size) = none
-areaOf (X64NativeVpContext mask vp size) = none
-areaOf (X64VbsVpContext vtl size mask) = none
-areaOf (AArch64VbsVpContext vtl size mask) = none
-areaOf (AArch64CcaVpContext mask vp size) = none
-areaOf (ParameterInsert p) = some (p .«parameter_area_index»)
-areaOf (ErrorRange gpa mask bytes) = none
-areaOf (SnpIdBlock mask size) = none
-areaOf (VbsMeasurement mask size) = none
+areaOf h = directiveFields h .area
 
 -- 34 to 43: a parameter
 abbrev pub isParameter : ℕ → Bool

@@ -5,7 +5,7 @@ use Rattle.igvm_defs.{specs.declared.Arch.Arch, specs.declared.Fault.Fault, spe
 use Rattle.sheet.{specs.declared.Cursor.Cursor, specs.Head.{limits, headOf, firstDirective}, specs.Read.Readable, specs.Table.{rowKind, bodyOf}, specs.Walk.cursorAt, proofs.Readable.readable-bounds}
 use Rattle.initialization_header.specs.declared.IgvmInitializationHeader.{IgvmInitializationHeader}
 use Rattle.directive_header.{specs.declared.IgvmDirectiveHeader.IgvmDirectiveHeader, specs.Fields.{areaOf, areaNamed}, specs.Directives.directiveOf, proofs.DirectiveLaws.area-directive}
-use Rattle.rules.{specs.Regions.{regionPasses, tableHolds}, specs.Directives.{allocates, inserts, noContext}, specs.Verdict.{Headers, directiveFaults, noMatchingVpContext, directivesRefusal}}
+use Rattle.rules.{specs.Regions.{regionPasses, tableHolds}, specs.Directives.{allocates, inserts, noContext}, specs.Headers.Headers, specs.Verdict.{directiveFaults, noMatchingVpContext, directivesRefusal}}
 use Rattle.clashes.specs.Clashes.{HoldsTables}
 use Rattle.initialization_check.{specs.declared.RelocRegions.RelocRegions, specs.Record.{entry, anyRegion, HoldsRegions}}
 use Rattle.directive_check.{specs.Record.{HoldsContexts, lacksContext, DirectiveStepped, howOf, howNamed, areaNumber}, proofs.DirectiveRecordLaws.{lacks-says, how-directive, allocates-says, inserts-says}}

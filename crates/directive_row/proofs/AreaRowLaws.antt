@@ -7,7 +7,7 @@ use Rattle.sheet.specs.Read.{codesOk}
 use Rattle.initialization_header.specs.declared.IgvmInitializationHeader.{IgvmInitializationHeader}
 use Rattle.directive_header.{specs.declared.IgvmDirectiveHeader.IgvmDirectiveHeader, specs.Directives.directiveOf, specs.Fields.isParameter}
 use Rattle.addresses.specs.Addresses.{onPage}
-use Rattle.rules.{specs.Regions.{regionPasses, tableHolds}, specs.Accepted.ownDirectiveFault, specs.Directives.{wrongArch, allocates, inserts, isAllocated, badArea, insideTable, isContext}}
+use Rattle.rules.{specs.Regions.{regionPasses, tableHolds}, specs.Directives.{ownDirectiveFault, wrongContextArch, allocates, inserts, isAllocated, badArea, insideTable, isContext}}
 use Rattle.area_table.{specs.AreaTable.{HoldsAreas, stateIn}, proofs.AreaTableLaws.holds-same}
 use Rattle.directive_body.specs.Sound.{Sound}
 use Rattle.directive_row.specs.Row.{AreaRow, NamedRow, areaState, stateOf, stateAfter}
@@ -84,7 +84,7 @@ module _ (earlier : Rows IgvmDirectiveHeader) (b : List ℕ) (live : stateOf ear
 
   pub insert-area : (arch : Arch) (few links areas states : List ℕ) → length b ≡ 16 → onPage (leAt 8 b 0) ≡ true
       → HoldsAreas few links areas states (λ x. cond (eqb x (leAt 4 b 12)) 2 (stateOf earlier x)) → AreaRow arch earlier 50 b few links areas states
-  unfolding kindOf spans lengthOk codesOk ownDirectiveFault directiveOf wrongArch isFault
+  unfolding kindOf spans lengthOk codesOk ownDirectiveFault directiveOf wrongContextArch isFault
   insert-area arch few links areas states l p h =
       record { sound = record { list = refl; long = rw l; codes = refl; own = rw p }; area = insert-good; known = holds-same h insert-state }
 
@@ -108,7 +108,7 @@ record Parameter (k : ℕ) : Type 0 where
   context : (level bits : ℕ) (b : List ℕ) → isContext level bits (directiveOf k b) ≡ false
 
 parameter : (k : ℕ) → isParameter k ≡ true → Parameter k
-unfolding kindOf spans codesOk ownDirectiveFault directiveOf wrongArch isFault badArea allocates inserts
+unfolding kindOf spans codesOk ownDirectiveFault directiveOf wrongContextArch isFault badArea allocates inserts
 parameter k e =
     let (low, high) = and-parts (leb 34 k) (leb k 43) e in
     let l = leb-true 34 k low in

@@ -6,7 +6,7 @@ use Rattle.igvm_defs.{specs.declared.Arch.Arch, specs.declared.Arch.the-variant
 use Rattle.sheet.specs.Read.{codesOk}
 use Rattle.directive_header.specs.Directives.{directiveOf}
 use Rattle.masks.specs.Masks.{shares}
-use Rattle.rules.{specs.Accepted.ownDirectiveFault, specs.Directives.{wrongArch, isContext}}
+use Rattle.rules.specs.Directives.{ownDirectiveFault, wrongContextArch, isContext}
 use Rattle.directive_check.{specs.Record.namesArea, proofs.DirectiveRecordLaws.context-set}
 use Rattle.directive_body.specs.Sound.{Sound}
 use Rattle.directive_row.specs.Row.{VbsContext, PlainRow}
@@ -40,23 +40,23 @@ module _ (arch : Arch) (kind : ℕ) (b contexts : List ℕ) where
   range-plain e = plain arch kind 51 b contexts e refl (λ level bits. refl)
 
   pub native-plain : kind ≡ 46 → isX64 arch ≡ true → leb 6 (length b) ≡ true → PlainRow arch kind b contexts contexts
-  unfolding kindOf spans lengthOk codesOk ownDirectiveFault directiveOf wrongArch isFault namesArea
+  unfolding kindOf spans lengthOk codesOk ownDirectiveFault directiveOf wrongContextArch isFault namesArea
   native-plain e x l = plain arch kind 46 b contexts e refl (λ level bits. refl) (record { list = refl; long = l; codes = refl; own = rw x })
 
   pub cca-plain : kind ≡ 49 → isAArch64 arch ≡ true → leb 6 (length b) ≡ true → PlainRow arch kind b contexts contexts
-  unfolding kindOf spans lengthOk codesOk ownDirectiveFault directiveOf wrongArch isFault namesArea
+  unfolding kindOf spans lengthOk codesOk ownDirectiveFault directiveOf wrongContextArch isFault namesArea
   cca-plain e x l = plain arch kind 49 b contexts e refl (λ level bits. refl) (record { list = refl; long = l; codes = refl; own = rw x })
 
   pub block-plain : kind ≡ 52 → leb 4 (length b) ≡ true → PlainRow arch kind b contexts contexts
-  unfolding kindOf spans lengthOk codesOk ownDirectiveFault directiveOf wrongArch isFault namesArea
+  unfolding kindOf spans lengthOk codesOk ownDirectiveFault directiveOf wrongContextArch isFault namesArea
   block-plain e l = plain arch kind 52 b contexts e refl (λ level bits. refl) (record { list = refl; long = l; codes = refl; own = refl })
 
   pub measurement-plain : kind ≡ 53 → leb 4 (length b) ≡ true → PlainRow arch kind b contexts contexts
-  unfolding kindOf spans lengthOk codesOk ownDirectiveFault directiveOf wrongArch isFault namesArea
+  unfolding kindOf spans lengthOk codesOk ownDirectiveFault directiveOf wrongContextArch isFault namesArea
   measurement-plain e l = plain arch kind 53 b contexts e refl (λ level bits. refl) (record { list = refl; long = l; codes = refl; own = refl })
 
   pub x64-plain : (next : List ℕ) → kind ≡ 47 → isX64 arch ≡ true → VbsContext b contexts next → PlainRow arch kind b contexts next
-  unfolding kindOf spans lengthOk codesOk ownDirectiveFault directiveOf wrongArch isFault namesArea
+  unfolding kindOf spans lengthOk codesOk ownDirectiveFault directiveOf wrongContextArch isFault namesArea
   x64-plain next e x v =
       rw e
       (record {
@@ -66,7 +66,7 @@ module _ (arch : Arch) (kind : ℕ) (b contexts : List ℕ) where
       })
 
   pub aarch64-plain : (next : List ℕ) → kind ≡ 48 → isAArch64 arch ≡ true → VbsContext b contexts next → PlainRow arch kind b contexts next
-  unfolding kindOf spans lengthOk codesOk ownDirectiveFault directiveOf wrongArch isFault namesArea
+  unfolding kindOf spans lengthOk codesOk ownDirectiveFault directiveOf wrongContextArch isFault namesArea
   aarch64-plain next e x v =
       rw e
       (record {

@@ -1,8 +1,8 @@
 -- Laws of faults and refusals: whether there is one, as an equation, and which one it is.
 -- Assumes nothing.
 use lib.Dec.{eqb·suc-zero}
-use Rattle.rows.{proofs.Kit.{_≡_, refl, ap, Bool, true, false, not, cond, _||_, Option, none, some, ℕ, suc, _+_, _<_}, specs.Below.{anyBelow, firstBelow}, proofs.BelowLaws.{any-below, none-any, first-any, first-at, first-says}}
-use Rattle.igvm_defs.specs.{declared.Refusal.Refusal, declared.Fault.Fault, Refusals.{refusal, noRefusal, fault, noFault, refuse, isFault, isRefusal, inRow, orElse, refusalAt, firstFault}}
+use Rattle.rows.{proofs.Kit.{_≡_, refl, ap, Bool, true, false, not, cond, _||_, Option, none, some, ℕ, suc, _+_, _<_, arith, ne-eqb}, specs.Below.{anyBelow, firstBelow}, proofs.BelowLaws.{any-below, none-any, first-any, first-at, first-says}}
+use Rattle.igvm_defs.specs.{declared.Refusal.Refusal, declared.Fault.Fault, Refusals.{refusal, noRefusal, fault, noFault, refuse, orFault, isFault, isRefusal, inRow, orElse, refusalAt, firstFault}}
 
 -- ---- whether there is a fault, a refusal
 pub no-fault : isFault noFault ≡ false
@@ -29,6 +29,17 @@ else-refusal r later = go (isRefusal r) refl
     go : (b : Bool) → isRefusal r ≡ b → isRefusal (cond b r later) ≡ (b || isRefusal later)
     go true e = e
     go false e = refl
+
+-- tests in a row are one chain
+pub or-then : (f : Fault) (n d : ℕ) (b : Bool) → 0 < n → (more : Fault)
+    → orFault (orFault f (refuse b (fault n d) noFault)) more ≡ orFault f (refuse b (fault n d) more)
+unfolding isFault
+or-then f n d b l more = go (isFault f) b refl
+  where
+    go : (a c : Bool) → isFault f ≡ a → orFault (cond a f (refuse c (fault n d) noFault)) more ≡ cond a f (refuse c (fault n d) more)
+    go true c q = rw q
+    go false true q = rw (ne-eqb n 0 (λ e. omega arith))
+    go false false q = refl
 
 -- ---- which refusal
 pub no-fault-row : (row : ℕ) (f : Fault) → isFault f ≡ false → inRow row f ≡ noRefusal

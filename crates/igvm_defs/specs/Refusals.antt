@@ -3,6 +3,7 @@
 use Prim.Native.Nat.{ℕ, _+_}
 use mathlib.Core.Bool.{Bool, cond, not}
 use mathlib.Core.Option.{Option, none, some}
+use mathlib.Core.Path.{_≡_}
 use lib.Dec.{eqb}
 use Rattle.rows.specs.Below.{firstBelow}
 use Rattle.igvm_defs.specs.declared.Refusal.{Refusal}
@@ -30,6 +31,11 @@ isFault f = not (eqb (f .number) 0)
 -- the fault where there is one, else what the later tests say
 abbrev pub orFault : Fault → Fault → Fault
 orFault f later = cond (isFault f) f later
+
+-- r is the fault f, or else that of number n and detail d where the test holds; and before later tests it says so too
+pub record Then (f : Fault) (n d : ℕ) (test : Bool) (r : Fault) : Type 0 where
+  pub is : r ≡ orFault f (refuse test (fault n d) noFault)
+  pub later : (more : Fault) → orFault r more ≡ orFault f (refuse test (fault n d) more)
 
 unfoldable pub isRefusal : Refusal → Bool
 isRefusal r = not (eqb (r .number) 0)

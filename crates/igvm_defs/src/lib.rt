@@ -2,7 +2,7 @@
 ghost use mathlib.Core.Path.{_≡_};
 ghost use Prim.Native.Nat.{ℕ, _<_};
 ghost use lib.ListN.{getD};
-ghost use Rattle.igvm_defs.specs.Refusals.{fault, refuse, orFault, isFault, isRefusal, inRow};
+ghost use Rattle.igvm_defs.specs.Refusals.{fault, refuse, Then, orFault, isFault, isRefusal, inRow};
 ghost use Rattle.igvm_defs.specs.Kinds.{kindOf, noKind, lengthOk};
 ghost use Rattle.igvm_defs.specs.Platforms.{platformTypeOf, isPlatformType};
 ghost use Rattle.igvm_defs.specs.Revision.{archOf, pageSizeOf, isX64, isAArch64};
@@ -63,6 +63,14 @@ impl Fault {
         ensures { λ r. ⌜ r ≡ isFault self ⌝ }
     {
         self.number != 0
+    }
+
+    // This fault, or else the one of this number where the test holds.
+    pub fn or(self, number: u64, detail: u64, test: bool) -> Fault
+        requires { ⌜ 0 < number ⌝ }
+        ensures { λ r. ⌜ Then self number detail test r ⌝ }
+    {
+        or_fault(self, refuse(test, number, detail, Fault::NONE))
     }
 
     // The refusal that a fault of this row is.

@@ -10,7 +10,7 @@ use Rattle.initialization_header.specs.Initializations.{initializationOf}
 use Rattle.directive_header.specs.Directives.{directiveOf}
 use Rattle.masks.specs.Masks.{shares, matches, isOneBit}
 use Rattle.addresses.specs.Addresses.{isMultiple, contains, meets, endsBeyond, baseValid}
-use Rattle.rules.{specs.Regions.{regionPasses, tablesShare, overlap}, specs.Platforms.{validatePlatform, sameType, platformFault}, specs.Initializations.{validateRegion, initializationFault}, specs.Directives.{wrongArch, badArea, directiveFault, noContext}, specs.Verdict.{noPlatform, noMatchingVpContext, platformsRefusal, initializationsRefusal, directivesRefusal, headersRefusal}, specs.Relocations.{regionCount, regionAt}}
+use Rattle.rules.{specs.Regions.{regionPasses, tablesShare, overlap}, specs.Platforms.{validatePlatform, sameType, ownPlatformFault, platformFault}, specs.Initializations.{validateRegion, initializationFault}, specs.Directives.{wrongContextArch, badArea, ownDirectiveFault, directiveFault, noContext}, specs.Verdict.{noPlatform, noMatchingVpContext, platformsRefusal, initializationsRefusal, directivesRefusal, headersRefusal}, specs.Relocations.{regionCount, regionAt}}
 use Rattle.sheet_headers.specs.Headers.{sheetHeaders}
 use Rattle.answers.{specs.Verdict.verdictRefusal, specs.Relocations.{maskFault, regionFault, checkRefusal, checkOf}}
 use Rattle.image_b.specs.{ImageB.imageB, Claims.{claims, readings, AllTrue}}
@@ -20,8 +20,8 @@ unfolding
     ones onesIn anyBelow firstBelow sumBelow nthBelow leAt isFault isRefusal inRow orElse firstFault spans kindOf lengthOk platformTypes
     isPlatformType platformTypeOf vtlOf limits headOf layoutOk withinLimits startFault revisionOf pageSizeFault rowKind rowLength offsetOf bodyOf
     listAt codesOk rowFault endFault rowsRefusal readRefusal sheetRefusal imageB platformOf initializationOf directiveOf shares matches isOneBit
-    isMultiple contains meets endsBeyond baseValid regionPasses tablesShare overlap validatePlatform sameType platformFault validateRegion
-    initializationFault wrongArch badArea directiveFault noContext noPlatform noMatchingVpContext platformsRefusal initializationsRefusal
+    isMultiple contains meets endsBeyond baseValid regionPasses tablesShare overlap validatePlatform sameType ownPlatformFault platformFault validateRegion
+    initializationFault wrongContextArch badArea ownDirectiveFault directiveFault noContext noPlatform noMatchingVpContext platformsRefusal initializationsRefusal
     directivesRefusal headersRefusal regionCount regionAt sheetHeaders verdictRefusal maskFault regionFault checkRefusal checkOf
 image-b = (
   refl ⨾ refl ⨾ refl ⨾ refl ⨾ refl ⨾ refl ⨾ refl ⨾ refl ⨾ refl ⨾ refl ⨾ refl ⨾ refl ⨾ refl ⨾ tt,

@@ -5,7 +5,7 @@ use Rattle.igvm_defs.{specs.declared.Arch.Arch, specs.Refusals.isFault, specs.R
 use Rattle.sheet.{specs.declared.Cursor.Cursor, specs.Head.{headOf, bodiesAt}, specs.Table.{rowKind, rowLength, offsetOf, bodyOf}, specs.Walk.ReadTo, proofs.Readable.{RowOk, body-length, initialization-list}, proofs.ReadLaws.read-more}
 use Rattle.platform_header.specs.declared.IgvmPlatformHeader.{IgvmPlatformHeader}
 use Rattle.initialization_header.{specs.declared.IgvmInitializationHeader.IgvmInitializationHeader, specs.Initializations.initializationOf}
-use Rattle.rules.{specs.declared.Region.Region, specs.Regions.{regionOf, regionPasses, tablesShare, overlap}, specs.Initializations.{withoutCca, initializationFault}, specs.Accepted.{ownInitializationFault, regionsClash}, specs.Verdict.initializationFaults, proofs.RegionLaws.clash-any, proofs.Acceptance.initialization-says}
+use Rattle.rules.{specs.declared.Region.Region, specs.Regions.{regionOf, regionPasses, tablesShare, overlap, regionsClash}, specs.Initializations.{withoutCca, initializationFault, ownInitializationFault}, specs.Verdict.initializationFaults, proofs.RegionLaws.clash-any, proofs.Acceptance.initialization-says}
 use Rattle.clashes.specs.Clashes.{anyTablesShare, anyOverlap}
 use Rattle.extents.{specs.declared.Reach.Reach, specs.Extents.{apartFrom, Covers}, proofs.ExtentLaws.{near-overlap, covers-more}}
 use Rattle.initialization_check.{specs.declared.RelocRegions.RelocRegions, specs.Record.{HoldsRegions, stored}, proofs.RecordLaws.{Room, Lent, lent-stored, holds-none, rows-none, holds-stored, rows-stored, holds-clashes}}

@@ -4,23 +4,20 @@ use mathlib.Core.Path.{_≡_}
 use mathlib.Core.Bool.{Bool, true, false, cond}
 use mathlib.Core.Option.{none, some}
 use mathlib.Core.List.{List}
-use lib.Dec.{eqb}
 use lib.ListN.{getD, set}
 use mir.Val.{boolByte}
 use Rattle.rows.specs.Below.{anyBelow, countBelow}
 use Rattle.rows.specs.Rows.{Rows, any, before, countOf}
 use Rattle.igvm_defs.specs.declared.Arch.{Arch}
 use Rattle.igvm_defs.specs.declared.Fault.{Fault}
-use Rattle.igvm_defs.specs.Refusals.{fault, noFault, refuse, orFault, isFault}
-use Rattle.addresses.specs.Addresses.{endsBeyond}
-use Rattle.masks.specs.Masks.{shares}
+use Rattle.igvm_defs.specs.Refusals.{fault, noFault, refuse, isFault}
 use Rattle.platform_header.specs.declared.IgvmPlatformHeader.{IgvmPlatformHeader}
 use Rattle.initialization_header.specs.declared.IgvmInitializationHeader.{IgvmInitializationHeader}
 use Rattle.rules.specs.declared.Region.{Region}
 use Rattle.clashes.specs.Clashes.{anyTablesShare, anyOverlap}
 use Rattle.initialization_check.specs.declared.RelocRegions.{RelocRegions}
 use Rattle.rules.specs.Regions.{regionOf, regionPasses, tablesShare, overlap}
-use Rattle.rules.specs.Initializations.{wrongArch, withoutCca, refuseBit, initializationFault}
+use Rattle.rules.specs.Initializations.{wrongPolicyArch, withoutCca, refuseBit, initializationFault}
 
 -- region i of the record
 abbrev pub entry : RelocRegions → ℕ → Region
@@ -58,19 +55,9 @@ pub record HoldsRows (first : ℕ) (rows : List ℕ) (r : RelocRegions) (xs : Ro
 -- 24 and 25: a CcaPolicy by the architecture and the platforms
 unfoldable pub policyFault : Arch → Rows IgvmPlatformHeader → IgvmInitializationHeader → Fault
 policyFault arch platforms h =
-    refuse (wrongArch arch h) (fault 24 17)
+    refuse (wrongPolicyArch arch h) (fault 24 17)
     (refuseBit (withoutCca platforms h)
     noFault)
-
--- the fault of a region whose header alone has the fault `own`, where `shares` and `overlaps` say what the regions before it tell
-unfoldable pub regionFault : Fault → Bool → Bool → Region → Fault
-regionFault own shares overlaps r =
-    orFault own
-    (refuse shares (fault 26 0)
-    (refuse (eqb (r .size) 0) (fault 27 0)
-    (refuse (endsBeyond (r .gpa) (r .size)) (fault 28 0)
-    (refuse overlaps (fault 29 0)
-    noFault))))
 
 -- the first n regions of the arrays clash with a region exactly where the rows' regions do
 pub record HoldsClashes (masks gpas sizes : List ℕ) (tables : List Bool) (n : ℕ) (xs : Rows IgvmInitializationHeader) : Type 0 where

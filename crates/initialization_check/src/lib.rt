@@ -12,10 +12,10 @@ ghost use Rattle.igvm_defs.specs.Vtls.{vtlNumber};
 ghost use Rattle.masks.specs.Masks.{individualMasks, firstMask};
 ghost use Rattle.platform_check.specs.Record.{HoldsPlatforms, lastTypeIsCca};
 ghost use Rattle.rules.specs.Regions.{regionOf};
-ghost use Rattle.rules.specs.Initializations.{validateAddresses, validateRegion, validateTable, validateInitialization, refuseBit};
+ghost use Rattle.rules.specs.Initializations.{validateRegion, validateTable, validateInitialization, refuseBit};
 ghost use Rattle.extents.specs.Extents.{apartFrom, Covers};
 ghost use Rattle.clashes.specs.Clashes.{anyOverlap};
-ghost use Rattle.initialization_check.specs.Record.{policyFault, regionFault, HoldsClashes, InitializationStepped};
+ghost use Rattle.initialization_check.specs.Record.{policyFault, HoldsClashes, InitializationStepped};
 use extents::Reach;
 use igvm_defs::Arch;
 use igvm_defs::Fault;
@@ -24,70 +24,28 @@ use initialization_header::IgvmInitializationHeader;
 use platform_check::Platforms;
 use rules::Region;
 
-// 20, with the first of gpa, minimum and maximum that is not a multiple of the alignment.
-fn validate_addresses(alignment: u64, gpa: u64, minimum: u64, maximum: u64) -> Fault
-    ensures { λ r. ⌜ r ≡ validateAddresses alignment gpa minimum maximum ⌝ }
-{
-    igvm_defs::refuse(
-        !addresses::is_multiple(gpa, alignment),
-        20,
-        gpa,
-        igvm_defs::refuse(
-            !addresses::is_multiple(minimum, alignment),
-            20,
-            minimum,
-            igvm_defs::refuse(
-                !addresses::is_multiple(maximum, alignment),
-                20,
-                maximum,
-                Fault::NONE,
-            ),
-        ),
-    )
-}
-
-// 17, 18, 19 and 20: a relocatable region alone.
+// 17, 18, 19 and 20 (gpa, minimum, maximum): a relocatable region alone.
 pub fn validate_region(alignment: u64, gpa: u64, size: u64, minimum: u64, maximum: u64) -> Fault
     ensures { λ r. ⌜ r ≡ validateRegion alignment gpa size minimum maximum ⌝ }
 {
-    igvm_defs::refuse(
-        !addresses::on_page(size),
-        17,
-        0,
-        igvm_defs::refuse(
-            !addresses::on_page(alignment),
-            18,
-            0,
-            igvm_defs::refuse(
-                alignment == 0,
-                19,
-                0,
-                validate_addresses(alignment, gpa, minimum, maximum),
-            ),
-        ),
-    )
+    Fault::NONE
+        .or(17, 0, !addresses::on_page(size))
+        .or(18, 0, !addresses::on_page(alignment))
+        .or(19, 0, alignment == 0)
+        .or(20, gpa, !addresses::is_multiple(gpa, alignment))
+        .or(20, minimum, !addresses::is_multiple(minimum, alignment))
+        .or(20, maximum, !addresses::is_multiple(maximum, alignment))
 }
 
 // 21, 22 (size, used size) and 23: a page table region alone.
 pub fn validate_table(gpa: u64, size: u64, used: u64) -> Fault
     ensures { λ r. ⌜ r ≡ validateTable gpa size used ⌝ }
 {
-    igvm_defs::refuse(
-        !addresses::on_page(gpa),
-        21,
-        gpa,
-        igvm_defs::refuse(
-            !addresses::on_page(size),
-            22,
-            size,
-            igvm_defs::refuse(
-                !addresses::on_page(used),
-                22,
-                used,
-                igvm_defs::refuse(size < used, 23, 0, Fault::NONE),
-            ),
-        ),
-    )
+    Fault::NONE
+        .or(21, gpa, !addresses::on_page(gpa))
+        .or(22, size, !addresses::on_page(size))
+        .or(22, used, !addresses::on_page(used))
+        .or(23, 0, size < used)
 }
 
 // The header alone.
@@ -100,11 +58,10 @@ pub fn validate(h: IgvmInitializationHeader) -> Fault
             compatibility_mask: _,
             attributes_required_zeroes,
             attributes_required_ones,
-        } => igvm_defs::refuse(
-            masks::shares_u64(attributes_required_zeroes, attributes_required_ones),
+        } => Fault::NONE.or(
             16,
             0,
-            Fault::NONE,
+            masks::shares_u64(attributes_required_zeroes, attributes_required_ones),
         ),
         IgvmInitializationHeader::RelocatableRegion {
             relocation_alignment,
@@ -161,24 +118,15 @@ pub fn any_near_overlap<'a>(
 }
 
 // A region of either kind, where a header has one.
-pub struct FoundRegion {
+pub struct HeaderRegion {
     pub found: bool,
     pub region: Region,
 }
 
-const NO_REGION: Region = Region {
-    mask: 0,
-    gpa: 0,
-    size: 0,
-    vp_index: 0,
-    vtl: 0,
-    page_table: false,
-};
-
-fn found_region(mask: u32, gpa: u64, size: u64, vp: u16, vtl: Vtl, table: bool) -> FoundRegion
+fn header_region(mask: u32, gpa: u64, size: u64, vp: u16, vtl: Vtl, table: bool) -> HeaderRegion
     ensures { λ r. ⌜ r ≡ record { found = true; region = record { mask = mask; gpa = gpa; size = size; «vp_index» = vp; vtl = vtlNumber vtl; «page_table» = table } } ⌝ }
 {
-    FoundRegion {
+    HeaderRegion {
         found: true,
         region: Region {
             mask: mask,
@@ -191,7 +139,7 @@ fn found_region(mask: u32, gpa: u64, size: u64, vp: u16, vtl: Vtl, table: bool) 
     }
 }
 
-pub fn region_of(h: IgvmInitializationHeader) -> FoundRegion
+pub fn region_of(h: IgvmInitializationHeader) -> HeaderRegion
     ensures { λ r. ⌜ regionOf h ≡ cond (r .found) (some (r .region)) none ⌝ }
 {
     match h {
@@ -202,7 +150,7 @@ pub fn region_of(h: IgvmInitializationHeader) -> FoundRegion
             vp_index,
             vtl,
             ..
-        } => found_region(
+        } => header_region(
             compatibility_mask,
             relocation_region_gpa,
             relocation_region_size,
@@ -217,48 +165,12 @@ pub fn region_of(h: IgvmInitializationHeader) -> FoundRegion
             vp_index,
             vtl,
             ..
-        } => found_region(compatibility_mask, gpa, size, vp_index, vtl, true),
-        _ => FoundRegion {
+        } => header_region(compatibility_mask, gpa, size, vp_index, vtl, true),
+        _ => HeaderRegion {
             found: false,
-            region: NO_REGION,
+            region: Region::NONE,
         },
     }
-}
-
-// 26, 27, 28 and 29: a region whose header alone has the fault `own`, by what the regions before it tell.
-fn region_fault(own: Fault, shares: bool, overlaps: bool, r: Region) -> Fault
-    ensures { λ f. ⌜ f ≡ regionFault own shares overlaps r ⌝ }
-{
-    let beyond = addresses::ends_beyond(r.gpa, r.size);
-    igvm_defs::or_fault(
-        own,
-        igvm_defs::refuse(
-            shares,
-            26,
-            0,
-            igvm_defs::refuse(
-                r.size == 0,
-                27,
-                0,
-                igvm_defs::refuse(
-                    beyond,
-                    28,
-                    0,
-                    igvm_defs::refuse(overlaps, 29, 0, Fault::NONE),
-                ),
-            ),
-        ),
-    )
-}
-
-// The fault of a row: that of its region where it has one, else its header's own.
-fn row_fault(found: bool, region: Fault, own: Fault) -> Fault
-    ensures { λ f. ⌜ f ≡ cond found region own ⌝ }
-{
-    if found {
-        return region;
-    }
-    own
 }
 
 impl RelocRegions {
@@ -293,13 +205,20 @@ pub fn check<'a>(
     requires { ⌜ (n ≤ 64) × (platforms .count ≤ 16) ⌝ }
     ensures { λ r. ⌜ ((ps : Rows IgvmPlatformHeader) (xs : Rows IgvmInitializationHeader) (i : ℕ) → HoldsPlatforms platforms ps → h ≡ xs .row i → HoldsClashes (now (masks .entry)) (now (gpas .entry)) (now (sizes .entry)) (now (tables .entry)) n (before i xs) → Covers reach (before i xs) → InitializationStepped arch ps xs i (r .fault) (r .found) (r .region)) ⌝ }
 {
-    let own = igvm_defs::or_fault(validate(h), policy_fault(arch, platforms, h));
     let new = region_of(h);
     let found = new.found;
     let region = new.region;
     let shares = clashes::any_tables_share(region, masks, tables, n);
     let overlaps = any_near_overlap(reach, region, masks, gpas, sizes, n);
-    let fault = row_fault(found, region_fault(own, shares, overlaps, region), own);
+    let fault = igvm_defs::or_fault(validate(h), policy_fault(arch, platforms, h))
+        .or(26, 0, found & shares)
+        .or(27, 0, found & (region.size == 0))
+        .or(
+            28,
+            0,
+            found & addresses::ends_beyond(region.gpa, region.size),
+        )
+        .or(29, 0, found & overlaps);
     InitializationStep {
         fault,
         found,

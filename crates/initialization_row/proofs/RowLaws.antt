@@ -8,7 +8,7 @@ use Rattle.platform_header.specs.declared.IgvmPlatformHeader.{IgvmPlatformHeade
 use Rattle.initialization_header.specs.Initializations.{ccaPolicyOf, initializationOf}
 use Rattle.masks.{specs.Masks.{shares, matches, hasBit}, proofs.MaskLaws.has-bit}
 use Rattle.addresses.specs.Addresses.{endsBeyond}
-use Rattle.rules.{specs.declared.Region.Region, specs.Regions.regionPasses, specs.Initializations.{validateRegion, validateTable, withoutCca}, specs.Accepted.ownInitializationFault, proofs.Acceptance.without-cca}
+use Rattle.rules.{specs.declared.Region.Region, specs.Regions.regionPasses, specs.Initializations.{validateRegion, validateTable, withoutCca, ownInitializationFault}, proofs.Acceptance.without-cca}
 use Rattle.platform_accept.specs.Accepted.{HoldsCca}
 use Rattle.initialization_row.specs.Row.{InOrder}
 
@@ -39,10 +39,7 @@ module _ (arch : Arch) (ps : Rows IgvmPlatformHeader) (b : List ℕ) where
 
   -- 17
   policy-cca : (cca : ℕ) → HoldsCca cca ps → matches (leAt 4 b 0) cca ≡ true → withoutCca ps (ccaPolicyOf b) ≡ none
-  policy-cca cca holds e =
-      without-cca ps (ccaPolicyOf b) .1 (λ mask zeroes ones f k l h.
-      let same : leAt 4 b 0 ≡ mask = cc in
-      holds k l (matches-bit mask cca k (rw same at e) h))
+  policy-cca cca holds e = without-cca ps (ccaPolicyOf b) .1 (λ _ k l h. holds k l (matches-bit (leAt 4 b 0) cca k e h))
 
   pub policy-in-order : (x64 : Bool) (cca mask zeroes ones : ℕ) (shared held : Bool) (new : Region) → x64 ≡ isX64 arch → HoldsCca cca ps → length b ≡ 22
       → mask ≡ leAt 4 b 0 → zeroes ≡ leAt 8 b 4 → ones ≡ leAt 8 b 12 → shared ≡ shares zeroes ones → held ≡ matches mask cca

@@ -14,8 +14,7 @@ use Rattle.platform_header.specs.declared.IgvmPlatformHeader.{IgvmPlatformHeade
 use Rattle.initialization_header.specs.Initializations.{initializationOf}
 use Rattle.rules.specs.declared.Region.{Region}
 use Rattle.rules.specs.Regions.{regionOf}
-use Rattle.rules.specs.Initializations.{withoutCca}
-use Rattle.rules.specs.Accepted.{ownInitializationFault}
+use Rattle.rules.specs.Initializations.{withoutCca, ownInitializationFault}
 
 -- the row has no fault but one that an earlier row may give it, and `new` is its region where one is found
 pub record InOrder (arch : Arch) (platforms : Rows IgvmPlatformHeader) (kind : ℕ) (b : List ℕ) (found : Bool) (new : Region) : Type 0 where

@@ -19,15 +19,6 @@ pub struct RowFound {
     pub region: Region,
 }
 
-const NO_REGION: Region = Region {
-    mask: 0,
-    gpa: 0,
-    size: 0,
-    vp_index: 0,
-    vtl: 0,
-    page_table: false,
-};
-
 // A row with no region.
 fn without_region(ok: bool) -> RowFound
     ensures { λ r. ⌜ (r .ok ≡ ok) × (r .found ≡ false) ⌝ }
@@ -35,7 +26,7 @@ fn without_region(ok: bool) -> RowFound
     RowFound {
         ok,
         found: false,
-        region: NO_REGION,
+        region: Region::NONE,
     }
 }
 

@@ -11,7 +11,7 @@ use Rattle.initialization_header.specs.Initializations.{initializationOf}
 use Rattle.directive_header.specs.Directives.{directiveOf}
 use Rattle.masks.specs.Masks.{shares, isOneBit, hasBit, bitsBelow, firstMask}
 use Rattle.addresses.specs.Addresses.{isMultiple}
-use Rattle.rules.{specs.Regions.regionPasses, specs.Platforms.{validatePlatform, sameType, platformFault, lastIsCca}, specs.Initializations.{bitWithoutCca, initializationFault}, specs.Directives.{wrongArch, allocates, inserts, isAllocated, badArea, directiveFault}, specs.Verdict.{noPlatform, noMatchingVpContext, platformsRefusal, initializationsRefusal, directivesRefusal, headersRefusal}}
+use Rattle.rules.{specs.Regions.regionPasses, specs.Platforms.{validatePlatform, sameType, ownPlatformFault, platformFault, lastIsCca}, specs.Initializations.{bitWithoutCca, initializationFault}, specs.Directives.{wrongContextArch, allocates, inserts, isAllocated, badArea, ownDirectiveFault, directiveFault}, specs.Verdict.{noPlatform, noMatchingVpContext, platformsRefusal, initializationsRefusal, directivesRefusal, headersRefusal}}
 use Rattle.sheet_headers.specs.Headers.{sheetHeaders}
 use Rattle.answers.{proofs.AnswerLaws.accepted-readable, specs.Verdict.verdictRefusal}
 use Rattle.order.specs.{Sheets.{areaFirst, areaLast, insertLast, insertFirst, ccaLast, ccaFirst, plain, longer}, Weakened.{Statement, Whole, AnyEnd, NoneTied, OneAreaNotInserted}, Reordered.{OneMask, OneArea, Reordered}, Demand.Accepted}
@@ -30,8 +30,8 @@ unfolding
     areaFirst areaLast insertLast insertFirst ccaLast ccaFirst plain longer ones onesIn anyBelow firstBelow lastBelow sumBelow leAt isFault isRefusal inRow orElse firstFault
     spans kindOf lengthOk platformTypes isPlatformType platformTypeOf limits headOf layoutOk withinLimits startFault revisionOf pageSizeFault rowKind
     rowLength offsetOf bodyOf listAt codesOk rowFault endFault rowsRefusal readRefusal sheetRefusal platformOf initializationOf directiveOf shares
-    isOneBit hasBit bitsBelow firstMask isMultiple regionPasses validatePlatform sameType platformFault lastIsCca bitWithoutCca initializationFault
-    wrongArch allocates inserts isAllocated badArea directiveFault noPlatform noMatchingVpContext platformsRefusal initializationsRefusal
+    isOneBit hasBit bitsBelow firstMask isMultiple regionPasses validatePlatform sameType ownPlatformFault platformFault lastIsCca bitWithoutCca initializationFault
+    wrongContextArch allocates inserts isAllocated badArea ownDirectiveFault directiveFault noPlatform noMatchingVpContext platformsRefusal initializationsRefusal
     directivesRefusal headersRefusal sheetHeaders verdictRefusal
 verdicts = (refl, refl, refl, refl, refl, refl, refl, refl)
 

@@ -10,7 +10,7 @@ use Rattle.initialization_header.specs.Initializations.{initializationOf}
 use Rattle.directive_header.{specs.Directives.directiveOf, specs.Fields.areaNamed}
 use Rattle.masks.specs.Masks.{shares, matches, isOneBit, hasBit, bitsBelow, firstMask}
 use Rattle.addresses.specs.Addresses.{isMultiple, meets, endsBeyond}
-use Rattle.rules.{specs.Regions.{regionPasses, tablesShare, overlap}, specs.Platforms.{validatePlatform, sameType, platformFault, lastIsCca}, specs.Initializations.{validateRegion, validateTable, bitWithoutCca, initializationFault}, specs.Directives.{wrongArch, allocates, inserts, isAllocated, badArea, directiveFault, noContext}, specs.Verdict.{noPlatform, noMatchingVpContext, platformsRefusal, initializationsRefusal, directivesRefusal, headersRefusal}}
+use Rattle.rules.{specs.Regions.{regionPasses, tablesShare, overlap}, specs.Platforms.{validatePlatform, sameType, ownPlatformFault, platformFault, lastIsCca}, specs.Initializations.{validateRegion, validateTable, bitWithoutCca, initializationFault}, specs.Directives.{wrongContextArch, allocates, inserts, isAllocated, badArea, ownDirectiveFault, directiveFault, noContext}, specs.Verdict.{noPlatform, noMatchingVpContext, platformsRefusal, initializationsRefusal, directivesRefusal, headersRefusal}}
 use Rattle.sheet_headers.specs.Headers.{sheetHeaders}
 use Rattle.answers.{proofs.AnswerLaws.accepted-readable, specs.Verdict.verdictRefusal, specs.Relocations.{relocationsOf, wordsAfter}}
 use Rattle.order.specs.{Sheets.{sheetA, sheetB}, Reordered.{OneMask, OneArea, Reordered}, Demand.{Accepted, SameAnswers}}
@@ -49,8 +49,8 @@ unfolding
     sheetA ones onesIn anyBelow firstBelow lastBelow sumBelow leAt isFault isRefusal inRow orElse firstFault spans kindOf lengthOk platformTypes
     isPlatformType platformTypeOf vtlOf limits headOf layoutOk withinLimits startFault revisionOf pageSizeFault rowKind rowLength offsetOf bodyOf
     listAt codesOk rowFault endFault rowsRefusal readRefusal sheetRefusal platformOf initializationOf directiveOf shares matches isOneBit hasBit
-    bitsBelow firstMask isMultiple meets endsBeyond regionPasses tablesShare overlap validatePlatform sameType platformFault lastIsCca validateRegion
-    validateTable bitWithoutCca initializationFault wrongArch allocates inserts isAllocated badArea directiveFault noContext noPlatform
+    bitsBelow firstMask isMultiple meets endsBeyond regionPasses tablesShare overlap validatePlatform sameType ownPlatformFault platformFault lastIsCca validateRegion
+    validateTable bitWithoutCca initializationFault wrongContextArch allocates inserts isAllocated badArea ownDirectiveFault directiveFault noContext noPlatform
     noMatchingVpContext platformsRefusal initializationsRefusal directivesRefusal headersRefusal sheetHeaders verdictRefusal
 accepted-A = refl
 

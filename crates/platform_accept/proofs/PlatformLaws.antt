@@ -6,7 +6,7 @@ use Rattle.igvm_defs.{specs.declared.Arch.Arch, specs.declared.Arch.the-variant
 use Rattle.sheet.{specs.declared.Cursor.Cursor, specs.Head.headOf, specs.Table.{rowKind, rowLength, offsetOf, bodyOf}, specs.Read.codesOk, specs.Walk.ReadTo, proofs.Readable.{RowOk, platform-list}, proofs.ReadLaws.read-more}
 use Rattle.platform_header.{specs.declared.IgvmPlatformHeader.IgvmPlatformHeader, specs.Platforms.{supportedPlatformOf, platformOf}}
 use Rattle.masks.{specs.Masks.{shares, isOneBit, hasBit}, proofs.MaskLaws.{shares-or, one-bit-alone, bit-set}}
-use Rattle.rules.{specs.Platforms.{validatePlatform, standsWith, sameType, isCca, lastIsCca}, specs.Accepted.ownPlatformFault, specs.Verdict.platformFaults, proofs.FaultLaws.{refuse-none, or-none}, proofs.Acceptance.platform-says}
+use Rattle.rules.{specs.Options.passes, specs.Platforms.{validatePlatform, standsWith, sameType, isCca, lastIsCca, ownPlatformFault}, specs.Verdict.platformFaults, proofs.FaultLaws.{refuse-none, or-none}, proofs.Acceptance.platform-says}
 use Rattle.sheet_headers.specs.Headers.{sheetHeaders}
 use Rattle.platform_accept.specs.Accepted.{HoldsCca, PlatformsAccepted}
 
@@ -107,7 +107,7 @@ types-more seen xs i types j l = rw (shares-or seen bit (2 ^ (xs .row j .«platf
 
 -- ---- the bits of CCA
 
-at-same : (xs : Rows IgvmPlatformHeader) (n : ℕ) (o : Option ℕ) → isCca (rowAt (before n xs) o) ≡ isCca (rowAt xs o)
+at-same : (xs : Rows IgvmPlatformHeader) (n : ℕ) (o : Option ℕ) → passes isCca (rowAt (before n xs) o) ≡ passes isCca (rowAt xs o)
 at-same xs n none = refl
 at-same xs n (some i) = refl
 
@@ -117,7 +117,7 @@ last-cca : (xs : Rows IgvmPlatformHeader) (i m : ℕ)
 unfolding lastIsCca
 last-cca xs i m =
     let p : ℕ → Bool = λ j. eqb (xs .row j .«compatibility_mask») m in
-    rw (at-same xs (i + 1) (lastBelow (i + 1) p), at-same xs i (lastBelow i p)) (last-more (λ o. isCca (rowAt xs o)) i p)
+    rw (at-same xs (i + 1) (lastBelow (i + 1) p), at-same xs i (lastBelow i p)) (last-more (λ o. passes isCca (rowAt xs o)) i p)
 
 pub cca-none : (xs : Rows IgvmPlatformHeader) → HoldsCca 0 xs
 unfolding hasBit shares

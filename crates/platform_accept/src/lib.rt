@@ -13,7 +13,7 @@ ghost use Rattle.sheet.specs.Head.{headOf, bodiesAt};
 ghost use Rattle.sheet.specs.Table.{rowKind, rowLength};
 ghost use Rattle.sheet.specs.Walk.{ReadTo};
 ghost use Rattle.platform_header.specs.Platforms.{supportedPlatformOf};
-ghost use Rattle.rules.specs.Accepted.{ownPlatformFault};
+ghost use Rattle.rules.specs.Platforms.{ownPlatformFault};
 ghost use Rattle.sheet_headers.specs.Headers.{sheetHeaders};
 ghost use Rattle.platform_accept.specs.Accepted.{PlatformsAccepted};
 use sheet::Cursor;

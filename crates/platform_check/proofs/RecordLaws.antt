@@ -2,8 +2,8 @@
 -- Assumes nothing.
 use Rattle.rows.{proofs.Kit.{_≡_, refl, sym, ap, _∙_, Bool, List, _⊎_, inl, inr, Option, none, some, ℕ, _+_, _≤_, _<_, add-one, arith, eqb, length, getD, set, getD-set-same, getD-set-other}, specs.Below.{anyBelow, lastBelow}, specs.Rows.{Rows, any, rowAt, before}, proofs.BelowLaws.{top, any-same-tests, last-same-tests, last-says}}
 use Rattle.platform_header.specs.declared.IgvmPlatformHeader.{IgvmPlatformHeader}
-use Rattle.rules.specs.Platforms.{sameType, isCca, lastIsCca}
-use Rattle.platform_check.specs.{declared.Platforms.Platforms, Record.{HoldsPlatforms, typeIsCca, lastTypeIsCca}}
+use Rattle.rules.{specs.Options.passes, specs.Platforms.{sameType, isCca, lastIsCca}}
+use Rattle.platform_check.specs.{declared.Platforms.Platforms, Record.{HoldsPlatforms, lastTypeIsCca}}
 
 -- the record never holds more than 16 rows
 pub holds-count : (r : Platforms) (xs : Rows IgvmPlatformHeader) → HoldsPlatforms r xs → r .count ≤ 16
@@ -37,7 +37,7 @@ holds-cca r xs mask held = rw same (go (lastBelow (xs .count) p) refl)
     same : lastBelow (r .count) (λ i. eqb (getD (r .mask) i 0) mask) ≡ lastBelow (xs .count) p
     same = rw (held .count) (last-same-tests (xs .count) (λ i. eqb (getD (r .mask) i 0) mask) p (λ i l. rw (held .mask i l)))
 
-    go : (o : Option ℕ) → lastBelow (xs .count) p ≡ o → typeIsCca r o ≡ isCca (rowAt xs o)
+    go : (o : Option ℕ) → lastBelow (xs .count) p ≡ o → passes (λ i. eqb (getD (r .types) i 0) 6) o ≡ passes isCca (rowAt xs o)
     go none e = refl
     go (some i) e = rw (held .type i (last-says (xs .count) p i e .0))
 

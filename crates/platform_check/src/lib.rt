@@ -24,27 +24,12 @@ pub fn validate(h: IgvmPlatformHeader) -> Fault
     let version = h.platform_version;
     let boundary = h.shared_gpa_boundary;
     let t = igvm_defs::platform_type_of(kind);
-    igvm_defs::refuse(
-        !masks::is_one_bit(mask),
-        8,
-        0,
-        igvm_defs::refuse(
-            !((vtl == 0) | (vtl == 2)),
-            9,
-            0,
-            igvm_defs::refuse(
-                !igvm_defs::is_platform_type(kind),
-                12,
-                0,
-                igvm_defs::refuse(
-                    !(version == t.version),
-                    10,
-                    0,
-                    igvm_defs::refuse(t.unshared & !(boundary == 0), 11, 0, Fault::NONE),
-                ),
-            ),
-        ),
-    )
+    Fault::NONE
+        .or(8, 0, !masks::is_one_bit(mask))
+        .or(9, 0, !((vtl == 0) | (vtl == 2)))
+        .or(12, 0, !igvm_defs::is_platform_type(kind))
+        .or(10, 0, version != t.version)
+        .or(11, 0, t.unshared & (boundary != 0))
 }
 
 fn stands_with(arch: Arch, t: PlatformType) -> bool
@@ -141,15 +126,9 @@ impl Platforms {
     {
         let kind = h.platform_type;
         let t = igvm_defs::platform_type_of(kind);
-        let fault = igvm_defs::or_fault(
-            validate(h),
-            igvm_defs::refuse(
-                !stands_with(arch, t),
-                13,
-                kind as u64,
-                igvm_defs::refuse(self.has_type(kind), 14, 0, Fault::NONE),
-            ),
-        );
+        let fault = validate(h)
+            .or(13, kind as u64, !stands_with(arch, t))
+            .or(14, 0, self.has_type(kind));
         let platforms = self.push(h.compatibility_mask, kind);
         PlatformStep { platforms, fault }
     }

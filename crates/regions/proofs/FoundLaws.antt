@@ -2,7 +2,7 @@
 -- Assumes nothing.
 use Rattle.rows.{proofs.Kit.{_≡_, refl, _∙_, Bool, true, false, not, cond, _&&_, Option, none, some, ℕ, zero, suc, _+_, _≤_, add-zero, add-one, arith, ne-eqb, eqb}, specs.Below.{sumBelow, nthBelow}, specs.Rows.{Rows, rowAt, before, countOf, nth}, proofs.BelowLaws.{count-more, count-le, nth-more}}
 use Rattle.initialization_header.{specs.declared.IgvmInitializationHeader.IgvmInitializationHeader, specs.declared.IgvmInitializationHeader.the-variants.{GuestPolicy, CcaPolicy, RelocatableRegion, PageTableRelocationRegion}}
-use Rattle.rules.specs.Relocations.{isRelocatable, isPageTable, relocatableOf, pageTableOf, then, regionCount, regionAt, pageTableAt}
+use Rattle.rules.{specs.Relocations.{isRelocatable, isPageTable, relocatableOf, pageTableOf, regionCount, regionAt, pageTableAt}, specs.Options.then}
 use Rattle.regions.specs.{declared.FoundTable.FoundTable, Found.{foundRegion, foundTable}}
 
 -- ---- any rows

@@ -1,36 +1,24 @@
 -- The headers of a file are accepted exactly when `Accepted` holds of its rows.
 -- Assumes nothing.
-use Rattle.rows.{proofs.Kit.{_≡_, refl, sym, _∙_, Bool, true, false, not, _&&_, false≢true, _↔_, none, some, ℕ, _+_, _^_, _<_, arith, eqb, eqb-true, eqb-false, eq-eqb, ne-eqb, not-false}, specs.Rows.{Rows, any, before}, proofs.Bools.and-parts, proofs.BelowLaws.none-any, proofs.PairedLaws.{earlier-apart, apart-earlier}}
-use Rattle.igvm_defs.{specs.declared.Arch.Arch, specs.Refusals.{noFault, isFault, isRefusal, inRow, firstFault}, specs.Platforms.platformTypeOf, proofs.RefusalLaws.{no-fault, row-refusal}}
+use Rattle.rows.{proofs.Kit.{_≡_, refl, sym, _∙_, Bool, true, false, not, cond, _&&_, _↔_, none, some, ℕ, _+_, _^_, _<_, arith, eqb, eqb-true, eqb-false, eq-eqb, ne-eqb, not-false}, specs.Rows.{Rows, any, before}, proofs.Bools.and-parts, proofs.BelowLaws.none-any, proofs.PairedLaws.{earlier-apart, apart-earlier}}
+use Rattle.igvm_defs.{specs.declared.Arch.Arch, specs.Refusals.{noFault, isFault, isRefusal, inRow, firstFault}, proofs.RefusalLaws.{no-fault, row-refusal}}
 use Rattle.platform_header.specs.declared.IgvmPlatformHeader.{IgvmPlatformHeader}
-use Rattle.initialization_header.{specs.declared.IgvmInitializationHeader.IgvmInitializationHeader, specs.declared.IgvmInitializationHeader.the-variants.{GuestPolicy, CcaPolicy, RelocatableRegion, PageTableRelocationRegion}}
-use Rattle.directive_header.{specs.declared.«IGVM_VHS_PARAMETER_INSERT».«IGVM_VHS_PARAMETER_INSERT», specs.declared.IgvmDirectiveHeader.IgvmDirectiveHeader, specs.declared.IgvmDirectiveHeader.the-variants.{PageData, ParameterArea, VpCount, EnvironmentInfo, Srat, Madt, Slit, Pptt, MmioRanges, MemoryMap, CommandLine, DeviceTree, RequiredMemory, SnpVpContext, X64NativeVpContext, X64VbsVpContext, AArch64VbsVpContext, AArch64CcaVpContext, ParameterInsert, ErrorRange, SnpIdBlock, VbsMeasurement}, specs.Fields.kindNumber}
+use Rattle.initialization_header.{specs.declared.IgvmInitializationHeader.IgvmInitializationHeader, specs.Fields.initializationFields}
+use Rattle.directive_header.{specs.declared.IgvmDirectiveHeader.IgvmDirectiveHeader, specs.Fields.directiveFields}
 use Rattle.masks.{specs.Masks.hasBit, proofs.MaskLaws.first-mask-none}
 use Rattle.addresses.specs.Addresses.{endsBeyond}
-use Rattle.rules.specs.{declared.Region.Region, Regions.{regionOf, regionPasses, tablesShare, overlap, tableHolds}, Platforms.{validatePlatform, standsWith, sameType, platformFault, lastIsCca}, Initializations.{validateInitialization, bitWithoutCca, withoutCca, initializationFault}, Directives.{validateDirective, allocates, badArea, insideTable, directiveFault, isContext, noContext}, Verdict.{Headers, platformFaults, initializationFaults, directiveFaults, noPlatform, noMatchingVpContext, platformsRefusal, initializationsRefusal, directivesRefusal, headersRefusal}, Accepted.{NotRefused, ownPlatformFault, ownInitializationFault, ownDirectiveFault, regionsClash, Accepted}}
+use Rattle.rules.specs.{declared.Region.Region, Regions.{regionOf, regionPasses, tablesShare, overlap, tableHolds, regionsClash}, Platforms.{sameType, platformFault, lastIsCca, ownPlatformFault}, Initializations.{validateInitialization, wrongPolicyArch, bitWithoutCca, withoutCca, initializationFault, ownInitializationFault}, Directives.{allocates, badArea, insideTable, directiveFault, isContext, noContext, ownDirectiveFault}, Headers.Headers, Verdict.{platformFaults, initializationFaults, directiveFaults, noPlatform, noMatchingVpContext, platformsRefusal, initializationsRefusal, directivesRefusal, headersRefusal}, Accepted.{NotRefused, Accepted}}
 use Rattle.rules.proofs.{RegionLaws.{overlap-sym, tables-share-sym, region-fails, regions-clash-sym, clash-any}, FaultLaws.{refuse-none, or-none, bit-none, else-none, rows-none}, AreaLaws.{earlier-once, once-earlier, allocates-names, bad-area}}
-use Rattle.rules.specs.Initializations as Initializations
-use Rattle.rules.specs.Directives as Directives
 
 -- ---- a platform row: 8 to 13, and 14
 
 pub platform-says : (arch : Arch) (earlier : Rows IgvmPlatformHeader) (h : IgvmPlatformHeader)
     → (isFault (platformFault arch earlier h) ≡ false) ↔ ((isFault (ownPlatformFault arch h) ≡ false) × (any (sameType h) earlier ≡ false))
-unfolding platformFault ownPlatformFault
+unfolding platformFault
 platform-says arch earlier h = (
-  λ e.
-      let (v, r) = or-none (validatePlatform h) _ .0 e in
-      let (c13, r13) = refuse-none stands 12 (h .«platform_type») _ .0 r in
-      let (c14, _) = refuse-none (any (sameType h) earlier) 13 0 noFault .0 r13 in
-      (rw (v, c13) no-fault, c14),
-  λ (own, c14).
-      let (v, r) = or-none (validatePlatform h) _ .0 own in
-      let (c13, _) = refuse-none stands 12 (h .«platform_type») noFault .0 r in
-      rw (v, c13, c14) no-fault,
+  λ e. let (own, r) = or-none (ownPlatformFault arch h) _ .0 e in (own, refuse-none (any (sameType h) earlier) 13 0 noFault .0 r .0),
+  λ (own, c14). rw (own, c14) no-fault,
 )
-  where
-    stands : Bool
-    stands = not (standsWith arch (platformTypeOf (h .«platform_type»)))
 
 pub sameType-sym : (h g : IgvmPlatformHeader) → sameType h g ≡ true → sameType g h ≡ true
 unfolding sameType
@@ -46,7 +34,7 @@ unfolding initializationFault ownInitializationFault
 initialization-says arch platforms earlier h = (
   λ e.
       let (v, r) = or-none (validateInitialization h) _ .0 e in
-      let (c24, r24) = refuse-none (Initializations.wrongArch arch h) 23 17 _ .0 r in
+      let (c24, r24) = refuse-none (wrongPolicyArch arch h) 23 17 _ .0 r in
       let (c25, r25) = bit-none (withoutCca platforms h) _ .0 r24 in
       let (c26, r26) = refuse-none (regionPasses (λ r. any (regionPasses (tablesShare r)) earlier) h) 25 0 _ .0 r25 in
       let (c27, r27) = refuse-none empty 26 0 _ .0 r26 in
@@ -55,7 +43,7 @@ initialization-says arch platforms earlier h = (
       (rw (v, c24, c27, c28) no-fault, c25, sym (clash-any tablesShare earlier h) ∙ c26, sym (clash-any overlap earlier h) ∙ c29),
   λ (own, c25, c26, c29).
       let (v, r) = or-none (validateInitialization h) _ .0 own in
-      let (c24, r24) = refuse-none (Initializations.wrongArch arch h) 23 17 _ .0 r in
+      let (c24, r24) = refuse-none (wrongPolicyArch arch h) 23 17 _ .0 r in
       let (c27, r27) = refuse-none empty 26 0 _ .0 r24 in
       let (c28, _) = refuse-none high 27 0 noFault .0 r27 in
       rw (v, c24, c25, clash-any tablesShare earlier h, c26, c27, c28, clash-any overlap earlier h, c29) no-fault,
@@ -76,69 +64,54 @@ bit-without-cca platforms mask = (
 )
 
 pub without-cca : (platforms : Rows IgvmPlatformHeader) (h : IgvmInitializationHeader) → (withoutCca platforms h ≡ none)
-    ↔ ((mask zeroes ones : ℕ) → h ≡ CcaPolicy mask zeroes ones → (k : ℕ) → k < 32 → hasBit mask k ≡ true → lastIsCca platforms (2 ^ k) ≡ true)
-without-cca platforms (GuestPolicy policy mask) = (λ _ _ _ _ e. absurd (false≢true (cc)), λ _. refl)
-without-cca platforms (CcaPolicy mask zeroes ones) = (
-  λ e m _ _ f. let s : mask ≡ m = cc in rw s at (bit-without-cca platforms mask .0 e),
-  λ e. bit-without-cca platforms mask .1 (e mask zeroes ones refl),
+    ↔ (initializationFields h .kind ≡ 17 → (k : ℕ) → k < 32 → hasBit (initializationFields h .mask) k ≡ true → lastIsCca platforms (2 ^ k) ≡ true)
+without-cca platforms h = (
+  λ f e. bit-without-cca platforms mask .0 (rw (eq-eqb _ _ e) at f),
+  λ f. go (eqb (initializationFields h .kind) 17) refl (λ e. bit-without-cca platforms mask .1 (f (eqb-true _ 17 e))),
 )
-without-cca platforms (RelocatableRegion mask alignment gpa size minimum maximum vtl2 rip gdtr vp vtl) = (λ _ _ _ _ e. absurd (false≢true (cc)), λ _. refl)
-without-cca platforms (PageTableRelocationRegion mask gpa size used vp vtl) = (λ _ _ _ _ e. absurd (false≢true (cc)), λ _. refl)
+  where
+    mask : ℕ
+    mask = initializationFields h .mask
+
+    go : (b : Bool) → eqb (initializationFields h .kind) 17 ≡ b → (eqb (initializationFields h .kind) 17 ≡ true → bitWithoutCca platforms mask ≡ none)
+        → cond b (bitWithoutCca platforms mask) none ≡ none
+    go true e f = f e
+    go false e f = refl
 
 -- ---- a directive row: 21, 22, 24, 30 and 31, then 32 and 33
 
 pub directive-says : (arch : Arch) (initializations : Rows IgvmInitializationHeader) (earlier : Rows IgvmDirectiveHeader) (h : IgvmDirectiveHeader)
     → (isFault (directiveFault arch initializations earlier h) ≡ false)
     ↔ ((isFault (ownDirectiveFault arch h) ≡ false) × (badArea earlier h ≡ false) × (insideTable initializations h ≡ false))
-unfolding directiveFault ownDirectiveFault
+unfolding directiveFault
 directive-says arch initializations earlier h = (
   λ e.
-      let (v, r) = or-none (validateDirective h) _ .0 e in
-      let (c24, r24) = refuse-none (Directives.wrongArch arch h) 23 (kindNumber h) _ .0 r in
-      let (c32, r32) = refuse-none (badArea earlier h) 31 0 _ .0 r24 in
-      let (c33, _) = refuse-none (insideTable initializations h) 32 0 noFault .0 r32 in
-      (rw (v, c24) no-fault, c32, c33),
-  λ (own, c32, c33).
-      let (v, r) = or-none (validateDirective h) _ .0 own in
-      let (c24, _) = refuse-none (Directives.wrongArch arch h) 23 (kindNumber h) noFault .0 r in
-      rw (v, c24, c32, c33) no-fault,
+      let (own, r) = or-none (ownDirectiveFault arch h) _ .0 e in
+      let (c32, r32) = refuse-none (badArea earlier h) 31 0 _ .0 r in
+      (own, c32, refuse-none (insideTable initializations h) 32 0 noFault .0 r32 .0),
+  λ (own, c32, c33). rw (own, c32, c33) no-fault,
 )
 
 -- no page table holds the insert's address
 pub inside-table : (initializations : Rows IgvmInitializationHeader) (h : IgvmDirectiveHeader) → (insideTable initializations h ≡ false)
-    ↔ ((p : «IGVM_VHS_PARAMETER_INSERT») → h ≡ ParameterInsert p → (j : ℕ) (r : Region) → j < initializations .count
-    → regionOf (initializations .row j) ≡ some r → tableHolds (p .«compatibility_mask») (p .gpa) r ≡ false)
-inside-table initializations (PageData gpa mask flags type size) = (λ _ _ e. absurd (false≢true (cc)), λ _. refl)
-inside-table initializations (ParameterArea bytes area size) = (λ _ _ e. absurd (false≢true (cc)), λ _. refl)
-inside-table initializations (VpCount p) = (λ _ _ e. absurd (false≢true (cc)), λ _. refl)
-inside-table initializations (EnvironmentInfo p) = (λ _ _ e. absurd (false≢true (cc)), λ _. refl)
-inside-table initializations (Srat p) = (λ _ _ e. absurd (false≢true (cc)), λ _. refl)
-inside-table initializations (Madt p) = (λ _ _ e. absurd (false≢true (cc)), λ _. refl)
-inside-table initializations (Slit p) = (λ _ _ e. absurd (false≢true (cc)), λ _. refl)
-inside-table initializations (Pptt p) = (λ _ _ e. absurd (false≢true (cc)), λ _. refl)
-inside-table initializations (MmioRanges p) = (λ _ _ e. absurd (false≢true (cc)), λ _. refl)
-inside-table initializations (MemoryMap p) = (λ _ _ e. absurd (false≢true (cc)), λ _. refl)
-inside-table initializations (CommandLine p) = (λ _ _ e. absurd (false≢true (cc)), λ _. refl)
-inside-table initializations (DeviceTree p) = (λ _ _ e. absurd (false≢true (cc)), λ _. refl)
-inside-table initializations (RequiredMemory gpa mask bytes protectable) = (λ _ _ e. absurd (false≢true (cc)), λ _. refl)
-inside-table initializations (SnpVpContext gpa mask vp vmsa) = (λ _ _ e. absurd (false≢true (cc)), λ _. refl)
-inside-table initializations (X64NativeVpContext mask vp context) = (λ _ _ e. absurd (false≢true (cc)), λ _. refl)
-inside-table initializations (X64VbsVpContext vtl registers mask) = (λ _ _ e. absurd (false≢true (cc)), λ _. refl)
-inside-table initializations (AArch64VbsVpContext vtl registers mask) = (λ _ _ e. absurd (false≢true (cc)), λ _. refl)
-inside-table initializations (AArch64CcaVpContext mask vp context) = (λ _ _ e. absurd (false≢true (cc)), λ _. refl)
-inside-table initializations (ParameterInsert q) = (
-  λ h p e j r l o.
-      let s : q ≡ p = cc in
-      region-fails (tableHolds (p .«compatibility_mask») (p .gpa)) (initializations .row j) .0
-      (none-any (initializations .count) (λ i. regionPasses (tableHolds (p .«compatibility_mask») (p .gpa)) (initializations .row i)) .0 (rw s at h) j l)
-      r o,
-  λ h.
-      none-any (initializations .count) (λ i. regionPasses (tableHolds (q .«compatibility_mask») (q .gpa)) (initializations .row i)) .1 (λ j l.
-      region-fails (tableHolds (q .«compatibility_mask») (q .gpa)) (initializations .row j) .1 (λ r o. h q refl j r l o)),
+    ↔ (directiveFields h .kind ≡ 50 → (j : ℕ) (r : Region) → j < initializations .count → regionOf (initializations .row j) ≡ some r
+    → tableHolds (directiveFields h .mask) (directiveFields h .gpa) r ≡ false)
+inside-table initializations h = (
+  λ f e j r l o. region-fails holds (initializations .row j) .0 (none-any (initializations .count) row-holds .0 (rw (eq-eqb _ _ e) at f) j l) r o,
+  λ f. go (eqb (directiveFields h .kind) 50) refl f,
 )
-inside-table initializations (ErrorRange gpa mask bytes) = (λ _ _ e. absurd (false≢true (cc)), λ _. refl)
-inside-table initializations (SnpIdBlock mask opaque) = (λ _ _ e. absurd (false≢true (cc)), λ _. refl)
-inside-table initializations (VbsMeasurement mask opaque) = (λ _ _ e. absurd (false≢true (cc)), λ _. refl)
+  where
+    holds : Region → Bool
+    holds = tableHolds (directiveFields h .mask) (directiveFields h .gpa)
+
+    row-holds : ℕ → Bool
+    row-holds j = regionPasses holds (initializations .row j)
+
+    go : (b : Bool) → eqb (directiveFields h .kind) 50 ≡ b
+        → (directiveFields h .kind ≡ 50 → (j : ℕ) (r : Region) → j < initializations .count → regionOf (initializations .row j) ≡ some r → holds r ≡ false)
+        → (b && any (regionPasses holds) initializations) ≡ false
+    go true e f = none-any (initializations .count) row-holds .1 (λ j l. region-fails holds (initializations .row j) .1 (λ r o. f (eqb-true _ 50 e) j r l o))
+    go false e f = refl
 
 -- ---- a region: 34
 
@@ -249,14 +222,14 @@ module _ (f : Headers) (h : NotRefused f) where
     types = earlier-apart sameType sameType-sym (f .platforms) (λ i l. platform-row i l .1);
     some-platform = platforms-say f .0 (headers-say f .0 h .0) .1;
     initialization = λ i l. initialization-row i l .0;
-    cca = λ i mask zeroes ones l e. without-cca (f .platforms) (f .initializations .row i) .0 (initialization-row i l .1) mask zeroes ones e;
+    cca = λ i l. without-cca (f .platforms) (f .initializations .row i) .0 (initialization-row i l .1);
     tables = earlier-apart (regionsClash tablesShare) (regions-clash-sym tablesShare tables-share-sym) (f .initializations) (λ i l. initialization-row i l .2);
     regions = earlier-apart (regionsClash overlap) (regions-clash-sym overlap overlap-sym) (f .initializations) (λ i l. initialization-row i l .3);
     directive = λ i l. directive-row i l .0;
     allocated = λ area. earlier-once (allocates area) (f .directives) (λ i l g.
         bad-area (before i (f .directives)) (f .directives .row i) .0 (directive-row i l .1) area (allocates-names area (f .directives .row i) g) .0 g);
     named = λ i area l o g. bad-area (before i (f .directives)) (f .directives .row i) .0 (directive-row i l .1) area o .1 g;
-    inserts = λ i p l e j r k o. inside-table (f .initializations) (f .directives .row i) .0 (directive-row i l .2) p e j r k o;
+    inserts = λ i l. inside-table (f .initializations) (f .directives .row i) .0 (directive-row i l .2);
     vp = λ i r l o. region-row i r l o .0;
     context = λ i r l o. region-row i r l o .1;
   }
@@ -271,7 +244,7 @@ not-refused f a =
       initializations-say f .1 (λ i l.
           initialization-says (f .arch) (f .platforms) (before i (f .initializations)) (f .initializations .row i) .1 (
             a .initialization i l,
-            without-cca (f .platforms) (f .initializations .row i) .1 (λ mask zeroes ones e. a .cca i mask zeroes ones l e),
+            without-cca (f .platforms) (f .initializations .row i) .1 (a .cca i l),
             apart-earlier (regionsClash tablesShare) (f .initializations) (a .tables) i l,
             apart-earlier (regionsClash overlap) (f .initializations) (a .regions) i l,
           )),
@@ -283,7 +256,7 @@ not-refused f a =
                 once-earlier (allocates area) (f .directives) (a .allocated area) i l,
                 a .named i area l o,
               )),
-              inside-table (f .initializations) (f .directives .row i) .1 (λ p e j r k o. a .inserts i p l e j r k o),
+              inside-table (f .initializations) (f .directives .row i) .1 (a .inserts i l),
             ),
         λ i r l o. no-context (f .directives) r .1 (a .vp i r l o, a .context i r l o),
       ),

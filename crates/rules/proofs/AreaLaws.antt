@@ -2,7 +2,7 @@
 -- Assumes nothing.
 use Rattle.rows.{proofs.Kit.{_≡_, refl, sym, ap, Bool, true, false, cond, not, false≢true, and-true, _↔_, Option, none, some, ℕ, _<_, decLt, arith, eqb, eqb-true, eq-eqb, not-false}, specs.Rows.{Rows, any, before, Once}, proofs.Bools.{not-both, is-false, and-parts}, proofs.BelowLaws.{any-below, some-below}}
 use Rattle.directive_header.{specs.declared.IgvmDirectiveHeader.IgvmDirectiveHeader, specs.Fields.{kindNumber, areaOf}}
-use Rattle.rules.specs.Directives.{testArea, allocates, inserts, isAllocated, badArea}
+use Rattle.rules.specs.{Options.passes, Directives.{allocates, inserts, isAllocated, badArea}}
 
 -- ---- at most one row passes: no row that passes has one before it that does
 
@@ -22,17 +22,17 @@ module _ {H : Type 0} (p : H → Bool) (xs : Rows H) where
 
 -- ---- the area that a header names
 
-test-area : (area : ℕ) (o : Option ℕ) → testArea (eqb area) o ≡ true → o ≡ some area
+test-area : (area : ℕ) (o : Option ℕ) → passes (eqb area) o ≡ true → o ≡ some area
 test-area area none h = absurd (false≢true h)
 test-area area (some b) h = ap {B = Option ℕ} some (sym (eqb-true area b h))
 
 pub allocates-names : (area : ℕ) (h : IgvmDirectiveHeader) → allocates area h ≡ true → areaOf h ≡ some area
 unfolding allocates
-allocates-names area h e = test-area area (areaOf h) (and-parts (eqb (kindNumber h) 33) (testArea (eqb area) (areaOf h)) e .1)
+allocates-names area h e = test-area area (areaOf h) (and-parts (eqb (kindNumber h) 33) (passes (eqb area) (areaOf h)) e .1)
 
 pub inserts-names : (area : ℕ) (h : IgvmDirectiveHeader) → inserts area h ≡ true → areaOf h ≡ some area
 unfolding inserts
-inserts-names area h e = test-area area (areaOf h) (and-parts (eqb (kindNumber h) 50) (testArea (eqb area) (areaOf h)) e .1)
+inserts-names area h e = test-area area (areaOf h) (and-parts (eqb (kindNumber h) 50) (passes (eqb area) (areaOf h)) e .1)
 
 -- a header that names an area allocates it where it is of kind 33
 pub allocates-kind : (area : ℕ) (h : IgvmDirectiveHeader) → areaOf h ≡ some area → allocates area h ≡ eqb (kindNumber h) 33
@@ -56,7 +56,7 @@ bad-area earlier h = go (areaOf h) refl
     one area true c = (λ e. (λ _. e, λ f. absurd (false≢true (sym f))), λ e. e .0 refl)
     one area false c = (λ e. (λ f. absurd (false≢true f), λ _. not-false c e), λ e. rw (e .1 refl))
 
-    go : (o : Option ℕ) → areaOf h ≡ o → (testArea test o ≡ false)
+    go : (o : Option ℕ) → areaOf h ≡ o → (passes test o ≡ false)
         ↔ ((area : ℕ) → o ≡ some area
         → (allocates area h ≡ true → any (allocates area) earlier ≡ false) × (allocates area h ≡ false → isAllocated earlier area ≡ true))
     go none e = (λ _ area f. absurd (false≢true (cc)), λ _. refl)

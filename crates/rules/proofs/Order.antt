@@ -3,7 +3,7 @@
 use Rattle.rows.{proofs.Kit.{_≡_, sym, false, _↔_}, specs.Paired.Free, proofs.PairedLaws.{forth, flip}}
 use Rattle.igvm_defs.specs.Refusals.{isRefusal}
 use Rattle.initialization_header.specs.declared.IgvmInitializationHeader.{IgvmInitializationHeader}
-use Rattle.rules.specs.{Verdict.{Headers, headersRefusal}, Accepted.Accepted, Reordered.{Reordered, SameAnswers}}
+use Rattle.rules.specs.{Headers.Headers, Verdict.headersRefusal, Accepted.Accepted, Reordered.{Reordered, SameAnswers}}
 use Rattle.rules.proofs.{Acceptance.accepted-says, Within.{Within, mask-sym, area-sym, within-accepted}, QueryLaws.{region-there, region-count-same, page-table-same}}
 
 free-sym : (x y : IgvmInitializationHeader) → Free x y → Free y x

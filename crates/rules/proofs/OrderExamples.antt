@@ -8,7 +8,7 @@ use Rattle.initialization_header.{specs.declared.IgvmInitializationHeader.IgvmI
 use Rattle.directive_header.{specs.declared.IgvmDirectiveHeader.IgvmDirectiveHeader, specs.declared.IgvmDirectiveHeader.the-variants.{ParameterArea, VpCount, VbsMeasurement}}
 use Rattle.masks.specs.Masks.{shares, isOneBit, hasBit, bitsBelow, firstMask}
 use Rattle.addresses.specs.Addresses.{isMultiple}
-use Rattle.rules.specs.{Regions.regionPasses, Platforms.{validatePlatform, sameType, platformFault, lastIsCca}, Initializations.{bitWithoutCca, initializationFault}, Directives.{wrongArch, allocates, inserts, isAllocated, badArea, directiveFault}, Verdict.{Headers, noPlatform, noMatchingVpContext, platformsRefusal, initializationsRefusal, directivesRefusal, headersRefusal}, Accepted.NotRefused, Reordered.{SameMask, SameArea}}
+use Rattle.rules.specs.{Regions.regionPasses, Platforms.{validatePlatform, ownPlatformFault, sameType, platformFault, lastIsCca}, Initializations.{bitWithoutCca, initializationFault}, Directives.{wrongContextArch, allocates, inserts, isAllocated, badArea, ownDirectiveFault, directiveFault}, Headers.Headers, Verdict.{noPlatform, noMatchingVpContext, platformsRefusal, initializationsRefusal, directivesRefusal, headersRefusal}, Accepted.NotRefused, Reordered.{SameMask, SameArea}}
 use Rattle.rules.proofs.Order.{same-accepted}
 
 -- ---- two rows exchanged
@@ -106,7 +106,7 @@ record Needed : Type 0 where
   too-early : isRefusal (headersRefusal (file X64 (platform 0 ∷ []) [] (vpCount ∷ area ∷ []))) ≡ true
 
 needed : Needed
-unfolding anyBelow firstBelow lastBelow isFault isRefusal inRow orElse firstFault platformTypes isPlatformType platformTypeOf shares isOneBit hasBit bitsBelow firstMask isMultiple regionPasses validatePlatform sameType platformFault lastIsCca bitWithoutCca initializationFault wrongArch allocates inserts isAllocated badArea directiveFault noPlatform noMatchingVpContext platformsRefusal initializationsRefusal directivesRefusal headersRefusal ones
+unfolding anyBelow firstBelow lastBelow isFault isRefusal inRow orElse firstFault platformTypes isPlatformType platformTypeOf shares isOneBit hasBit bitsBelow firstMask isMultiple regionPasses validatePlatform sameType ownPlatformFault platformFault lastIsCca bitWithoutCca initializationFault wrongContextArch allocates inserts isAllocated badArea ownDirectiveFault directiveFault noPlatform noMatchingVpContext platformsRefusal initializationsRefusal directivesRefusal headersRefusal ones
 needed = record { cca-last = refl; cca-first = refl; allocated = refl; too-early = refl }
 
 -- with platform rows free to move, the statement is false

@@ -4,7 +4,7 @@ use Rattle.rows.{proofs.Kit.{_≡_, refl, sym, Bool, true, false, _&&_, false�
 use Rattle.initialization_header.specs.declared.IgvmInitializationHeader.{IgvmInitializationHeader}
 use Rattle.masks.{specs.Masks.shares, proofs.MaskLaws.shares-sym}
 use Rattle.addresses.specs.Addresses.{contains, meets}
-use Rattle.rules.specs.{declared.Region.Region, Regions.{regionOf, testRegion, regionPasses, tablesShare, overlap}, Accepted.regionsClash}
+use Rattle.rules.specs.{declared.Region.Region, Regions.{regionOf, regionPasses, tablesShare, overlap, regionsClash}, Options.passes}
 
 -- ---- ranges of addresses
 
@@ -50,7 +50,7 @@ pub region-passes : (p : Region → Bool) (h : IgvmInitializationHeader)
 unfolding regionPasses
 region-passes p h = go (regionOf h)
   where
-    go : (o : Option Region) → (testRegion p o ≡ true) ↔ ((r : Region) × (o ≡ some r) × (p r ≡ true))
+    go : (o : Option Region) → (passes p o ≡ true) ↔ ((r : Region) × (o ≡ some r) × (p r ≡ true))
     go none = (λ e. absurd (false≢true e), λ (r, e, g). absurd (false≢true (cc)))
     go (some r) = (λ e. (r, refl, e), λ (q, e, g). let s : r ≡ q = cc in rw s g)
 
@@ -85,6 +85,6 @@ unfolding regionPasses regionsClash
 clash-any clash xs h = go (regionOf h)
   where
     go : (o : Option Region)
-        → testRegion (λ r. any (regionPasses (clash r)) xs) o ≡ any (λ g. testRegion (λ r. regionPasses (clash r) g) o) xs
+        → passes (λ r. any (regionPasses (clash r)) xs) o ≡ any (λ g. passes (λ r. regionPasses (clash r) g) o) xs
     go none = sym (none-any (xs .count) (λ i. false) .1 (λ i l. refl))
     go (some r) = refl

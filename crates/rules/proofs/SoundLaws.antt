@@ -3,7 +3,7 @@
 use Rattle.rows.{proofs.Kit.{_≡_, false}, proofs.Bools.not-both, proofs.BelowLaws.some-below}
 use Rattle.igvm_defs.specs.Refusals.{isRefusal}
 use Rattle.masks.proofs.MaskLaws.{matches-shares}
-use Rattle.rules.specs.{Regions.overlap, Directives.isContext, Verdict.{Headers, headersRefusal}, Accepted.Accepted, Sound.Sound}
+use Rattle.rules.specs.{Regions.overlap, Directives.isContext, Headers.Headers, Verdict.headersRefusal, Accepted.Accepted, Sound.Sound}
 use Rattle.rules.proofs.{RegionLaws.{contains-meets, overlap-says, regions-clash}, Acceptance.accepted-says}
 
 sound : (f : Headers) → Accepted f → Sound f

@@ -5,7 +5,7 @@ use Rattle.rows.{proofs.Kit.{_≡_, sym, ap, _∙_, subst, Bool, true, false, n
 use Rattle.igvm_defs.specs.Refusals.{isFault}
 use Rattle.platform_header.specs.declared.IgvmPlatformHeader.{IgvmPlatformHeader}
 use Rattle.directive_header.{specs.declared.IgvmDirectiveHeader.IgvmDirectiveHeader, specs.Fields.areaOf}
-use Rattle.rules.specs.{Regions.{regionOf, tablesShare, overlap}, Platforms.{sameType, isCca, lastIsCca}, Directives.{allocates, inserts, isAllocated, isContext}, Verdict.Headers, Accepted.{ownPlatformFault, ownInitializationFault, ownDirectiveFault, regionsClash, Accepted}, Reordered.{SameMask, SameArea}}
+use Rattle.rules.specs.{Regions.{regionOf, tablesShare, overlap, regionsClash}, Options.passes, Platforms.{sameType, isCca, lastIsCca, ownPlatformFault}, Directives.{allocates, inserts, isAllocated, isContext, ownDirectiveFault}, Headers.Headers, Initializations.ownInitializationFault, Accepted.Accepted, Reordered.{SameMask, SameArea}}
 use Rattle.rules.proofs.AreaLaws.{allocates-names, inserts-names}
 
 pub record Within (g f : Headers) : Type 0 where
@@ -55,7 +55,7 @@ mask-sym p q e = sym e
 pub last-cca-same : {ps qs : Rows IgvmPlatformHeader} → Paired SameMask ps qs → (mask : ℕ) → lastIsCca ps mask ≡ lastIsCca qs mask
 unfolding lastIsCca
 last-cca-same P mask =
-    ap isCca (last-same mask-sym P (λ p. eqb (p .«compatibility_mask») mask) (λ x y hx hy.
+    ap (passes isCca) (last-same mask-sym P (λ p. eqb (p .«compatibility_mask») mask) (λ x y hx hy.
     eqb-true (x .«compatibility_mask») mask hx ∙ sym (eqb-true (y .«compatibility_mask») mask hy)))
 
 -- ---- directives
@@ -85,9 +85,9 @@ within-accepted g f W a =
       types = apart-back (forth (W .platforms)) sameType (a .types);
       some-platform = rw (length-same (W .platforms)) (a .some-platform);
       initialization = each-back (W .initializations) (λ h. isFault (ownInitializationFault (g .arch) h) ≡ false) (rw (W .arch) (a .initialization));
-      cca = λ i mask zeroes ones l e k b h.
+      cca = λ i l e k b h.
           last-cca-same (W .platforms) _
-          ∙ a .cca (W .initializations .to i) mask zeroes ones (W .initializations .to-below i l) (W .initializations .same i l ∙ e) k b h;
+          ∙ a .cca (W .initializations .to i) (W .initializations .to-below i l) (rw (W .initializations .same i l) e) k b (rw (W .initializations .same i l) h);
       tables = apart-back (W .initializations) (regionsClash tablesShare) (a .tables);
       regions = apart-back (W .initializations) (regionsClash overlap) (a .regions);
       directive = each-back (W .directives) (λ h. isFault (ownDirectiveFault (g .arch) h) ≡ false) (rw (W .arch) (a .directive));
@@ -95,9 +95,10 @@ within-accepted g f W a =
       named = λ i area l o n.
           allocated-back (W .directives) i area l o (λ j. W .areas area i j l o)
           (a .named (W .directives .to i) area (W .directives .to-below i l) (ap areaOf (W .directives .same i l) ∙ o) (ap (allocates area) (W .directives .same i l) ∙ n));
-      inserts = λ i p l e j r k o.
-          a .inserts (W .directives .to i) p (W .directives .to-below i l) (W .directives .same i l ∙ e)
-          (W .initializations .to j) r (W .initializations .to-below j k) (ap regionOf (W .initializations .same j k) ∙ o);
+      inserts = λ i l e j r k o.
+          rw (W .directives .same i l) at
+          (a .inserts (W .directives .to i) (W .directives .to-below i l) (rw (W .directives .same i l) e)
+          (W .initializations .to j) r (W .initializations .to-below j k) (ap regionOf (W .initializations .same j k) ∙ o));
       vp = λ i r l o. a .vp (W .initializations .to i) r (W .initializations .to-below i l) (ap regionOf (W .initializations .same i l) ∙ o);
       context = λ i r l o.
           any-kept (W .directives) (isContext (r .vtl) (r .mask)) (W .contexts (r .vtl) (r .mask))

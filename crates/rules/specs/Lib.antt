@@ -1,7 +1,9 @@
+pub mod Options
 pub mod Regions
 pub mod Platforms
 pub mod Initializations
 pub mod Directives
+pub mod Headers
 pub mod Verdict
 pub mod Relocations
 pub mod Accepted

@@ -1,30 +1,26 @@
 -- Regions of either kind (18, 19): what they cover, and for whom.
 use Prim.Native.Nat.{ℕ}
-use mathlib.Core.Bool.{Bool, true, false, _&&_}
-use mathlib.Core.Option.{Option, none, some}
-use Rattle.igvm_defs.specs.Vtls.{vtlNumber}
-use Rattle.initialization_header.specs.declared.IgvmInitializationHeader.{IgvmInitializationHeader}
-use Rattle.initialization_header.specs.declared.IgvmInitializationHeader.the-variants.{GuestPolicy, CcaPolicy, RelocatableRegion, PageTableRelocationRegion}
+use mathlib.Core.{Bool.{Bool, cond, _&&_, _||_}, Option.{Option, none, some}}
+use lib.Dec.{eqb}
+use Rattle.initialization_header.specs.{declared.IgvmInitializationHeader.IgvmInitializationHeader, Fields.initializationFields}
 use Rattle.masks.specs.Masks.{shares}
 use Rattle.addresses.specs.Addresses.{contains, meets}
-use Rattle.rules.specs.declared.Region.{Region}
+use Rattle.rules.specs.{declared.Region.Region, Options.passes}
 
 -- the region of a header, where it has one
 abbrev pub regionOf : IgvmInitializationHeader → Option Region
-regionOf (GuestPolicy policy mask) = none
-regionOf (CcaPolicy mask zeroes ones) = none
-regionOf (RelocatableRegion mask alignment gpa size minimum maximum vtl2 rip gdtr vp vtl) =
-    some (record { mask = mask; gpa = gpa; size = size; «vp_index» = vp; vtl = vtlNumber vtl; «page_table» = false })
-regionOf (PageTableRelocationRegion mask gpa size used vp vtl) =
-    some (record { mask = mask; gpa = gpa; size = size; «vp_index» = vp; vtl = vtlNumber vtl; «page_table» = true })
-
-abbrev pub testRegion : (Region → Bool) → Option Region → Bool
-testRegion p none = false
-testRegion p (some r) = p r
+regionOf h =
+    let d = initializationFields h in
+    let region : Region = record { mask = d .mask; gpa = d .gpa; size = d .size; «vp_index» = d .vp; vtl = d .vtl; «page_table» = eqb (d .kind) 19 } in
+    cond (eqb (d .kind) 18 || eqb (d .kind) 19) (some region) none
 
 -- the header has a region, and the region passes
 unfoldable pub regionPasses : (Region → Bool) → IgvmInitializationHeader → Bool
-regionPasses p h = testRegion p (regionOf h)
+regionPasses p h = passes p (regionOf h)
+
+-- both headers have a region, and the two regions clash
+unfoldable pub regionsClash : (Region → Region → Bool) → IgvmInitializationHeader → IgvmInitializationHeader → Bool
+regionsClash clash h g = regionPasses (λ r. regionPasses (clash r) g) h
 
 -- two page tables whose masks share a bit
 unfoldable pub tablesShare : Region → Region → Bool

@@ -1,18 +1,11 @@
 -- Demand 3 on headers: two files whose rows pair off one to one within each list, and what they then answer alike.
 use Prim.Native.Nat.{ℕ, _<_}
-use mathlib.Core.Bool.{true}
-use mathlib.Core.Logic.{_≢_, _↔_}
-use mathlib.Core.Option.{some}
-use mathlib.Core.Path.{_≡_}
-use Rattle.rows.specs.Rows.{Rows, before, countOf}
-use Rattle.rows.specs.Paired.{Paired, Free}
+use mathlib.Core.{Bool.true, Logic.{_≢_, _↔_}, Option.some, Path._≡_}
+use Rattle.rows.specs.{Rows.{Rows, before, countOf}, Paired.{Paired, Free}}
 use Rattle.platform_header.specs.declared.IgvmPlatformHeader.{IgvmPlatformHeader}
 use Rattle.initialization_header.specs.declared.IgvmInitializationHeader.{IgvmInitializationHeader}
-use Rattle.directive_header.specs.declared.IgvmDirectiveHeader.{IgvmDirectiveHeader}
-use Rattle.directive_header.specs.Fields.{areaOf}
-use Rattle.rules.specs.Verdict.{Headers}
-use Rattle.rules.specs.Accepted.{NotRefused}
-use Rattle.rules.specs.Relocations.{isRelocatable, regionCount, regionAt, pageTableAt}
+use Rattle.directive_header.specs.{declared.IgvmDirectiveHeader.IgvmDirectiveHeader, Fields.areaOf}
+use Rattle.rules.specs.{Headers.Headers, Accepted.NotRefused, Relocations.{isRelocatable, regionCount, regionAt, pageTableAt}}
 
 -- ---- which rows stand in the same order in both files
 

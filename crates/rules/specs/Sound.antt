@@ -1,15 +1,9 @@
 -- What holds of the regions of an accepted file, of either kind (18, 19).
 use Prim.Native.Nat.{ℕ, _<_}
-use mathlib.Core.Bool.{true}
-use mathlib.Core.Logic.{_≢_}
-use mathlib.Core.Option.{some}
-use mathlib.Core.Path.{_≡_}
+use mathlib.Core.{Bool.true, Logic._≢_, Option.some, Path._≡_}
 use Rattle.masks.specs.Masks.{matches}
 use Rattle.addresses.specs.Addresses.{contains}
-use Rattle.rules.specs.declared.Region.{Region}
-use Rattle.rules.specs.Regions.{regionOf}
-use Rattle.rules.specs.Directives.{isContext}
-use Rattle.rules.specs.Verdict.{Headers}
+use Rattle.rules.specs.{declared.Region.Region, Headers.Headers, Regions.regionOf, Directives.isContext}
 
 -- r is the region of initialization row i, and its mask holds every bit of the mask given
 pub record MatchingRegion (f : Headers) (given i : ℕ) (r : Region) : Type 0 where

@@ -1,25 +1,9 @@
 -- The first refusal of a file's headers, 8 to 34: list after list, row after row.
 use Prim.Native.Nat.{ℕ, _+_}
 use lib.Dec.{eqb}
-use Rattle.rows.specs.Rows.{Rows, any, before}
-use Rattle.igvm_defs.specs.declared.Arch.{Arch}
-use Rattle.igvm_defs.specs.declared.Fault.{Fault}
-use Rattle.igvm_defs.specs.declared.Refusal.{Refusal}
-use Rattle.igvm_defs.specs.Refusals.{fault, noFault, refuse, inRow, orElse, firstFault}
-use Rattle.platform_header.specs.declared.IgvmPlatformHeader.{IgvmPlatformHeader}
-use Rattle.initialization_header.specs.declared.IgvmInitializationHeader.{IgvmInitializationHeader}
-use Rattle.directive_header.specs.declared.IgvmDirectiveHeader.{IgvmDirectiveHeader}
-use Rattle.rules.specs.Platforms.{platformFault}
-use Rattle.rules.specs.Regions.{regionPasses}
-use Rattle.rules.specs.Initializations.{initializationFault}
-use Rattle.rules.specs.Directives.{directiveFault, noContext}
-
--- a file: its architecture and its three lists of headers
-pub record Headers : Type 0 where
-  pub arch : Arch
-  pub platforms : Rows IgvmPlatformHeader
-  pub initializations : Rows IgvmInitializationHeader
-  pub directives : Rows IgvmDirectiveHeader
+use Rattle.rows.specs.Rows.{any, before}
+use Rattle.igvm_defs.specs.{declared.Fault.Fault, declared.Refusal.Refusal, Refusals.{fault, noFault, refuse, inRow, orElse, firstFault}}
+use Rattle.rules.specs.{Headers.Headers, Platforms.platformFault, Regions.regionPasses, Initializations.initializationFault, Directives.{directiveFault, noContext}}
 
 -- ---- the fault of each row, given the headers before it
 
@@ -27,8 +11,7 @@ abbrev pub platformFaults : Headers → ℕ → Fault
 platformFaults f i = platformFault (f .arch) (before i (f .platforms)) (f .platforms .row i)
 
 abbrev pub initializationFaults : Headers → ℕ → Fault
-initializationFaults f i =
-    initializationFault (f .arch) (f .platforms) (before i (f .initializations)) (f .initializations .row i)
+initializationFaults f i = initializationFault (f .arch) (f .platforms) (before i (f .initializations)) (f .initializations .row i)
 
 abbrev pub directiveFaults : Headers → ℕ → Fault
 directiveFaults f i = directiveFault (f .arch) (f .initializations) (before i (f .directives)) (f .directives .row i)

@@ -11,6 +11,17 @@ pub struct Region {
     pub page_table: bool,
 }
 
+impl Region {
+    pub const NONE: Region = Region {
+        mask: 0,
+        gpa: 0,
+        size: 0,
+        vp_index: 0,
+        vtl: 0,
+        page_table: false,
+    };
+}
+
 // A relocatable region as a query answers it. The flags are 1 VTL2, 2 RIP, 4 GDTR.
 pub struct IgvmRelocatableRegion {
     pub base_gpa: u64,

@@ -4,7 +4,7 @@ use mathlib.Core.List.{List}
 use Rattle.igvm_defs.specs.Revision.{archOf}
 use Rattle.sheet.specs.Head.{headOf, revisionOf}
 use Rattle.sheet.specs.Table.{headersOf}
-use Rattle.rules.specs.Verdict.{Headers}
+use Rattle.rules.specs.Headers.{Headers}
 use Rattle.platform_header.specs.Platforms.{platformOf}
 use Rattle.initialization_header.specs.Initializations.{initializationOf}
 use Rattle.directive_header.specs.Directives.{directiveOf}

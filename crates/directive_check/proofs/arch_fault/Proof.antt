@@ -1,7 +1,7 @@
--- `arch_fault` meets its contract. Assumes nothing.
-use Rattle.rows.proofs.Kit.{ℕ, List, [], _∷_, needs}
+use Rattle.rows.proofs.Kit.{List, [], _∷_, ℕ, needs}
+use Rattle.igvm_defs.specs.Refusals.{isFault}
 use Rattle.directive_header.proofs.DirectiveLaws.{not-kind}
-use Rattle.rules.specs.Directives.{wrongArch}
+use Rattle.rules.specs.Directives.{wrongContextArch}
 use Rattle.directive_check.proofs.arch_fault.Statement.{statement}
 use Rattle.directive_check.proofs.arch_fault.Tie as tie
 
@@ -9,24 +9,28 @@ use Rattle.directive_check.proofs.arch_fault.Tie as tie
 abbrev others : List ℕ
 others = 0 ∷ 1 ∷ 2 ∷ 3 ∷ 4 ∷ 5 ∷ 6 ∷ 7 ∷ 8 ∷ 9 ∷ 10 ∷ 11 ∷ 12 ∷ 13 ∷ 18 ∷ 19 ∷ 20 ∷ 21 ∷ []
 
+-- /work/h/2/target/rlib/igvm_defs.rlib/interface/lang/src/lib.rt:4:26
+-- /work/h/2/target/rlib/igvm_defs.rlib/interface/lang/src/lib.rt:4:26
+-- /work/h/2/target/rlib/igvm_defs.rlib/interface/lang/src/lib.rt:4:26
+-- /work/h/2/target/rlib/igvm_defs.rlib/interface/lang/src/lib.rt:4:26
 returns : tie.Need-returns
-unfolding wrongArch
+unfolding wrongContextArch isFault
 returns c = rw (c .before .enum-told .given .1) (cc)
 
 returns-2 : tie.Need-returns-2
-unfolding wrongArch
+unfolding wrongContextArch isFault
 returns-2 c = rw (c .before .enum-told2 .given .1) (cc)
 
 returns-3 : tie.Need-returns-3
-unfolding wrongArch
+unfolding wrongContextArch isFault
 returns-3 c = rw (c .before .enum-told3 .given .1) (cc)
 
 returns-4 : tie.Need-returns-4
-unfolding wrongArch
+unfolding wrongContextArch isFault
 returns-4 c = rw (c .before .enum-told4 .given .1) (cc)
 
 returns-5 : tie.Need-returns-5
-unfolding wrongArch
+unfolding wrongContextArch
 returns-5 c =
     let h = c .before .before .before .args .h in
     let k = c .match .keys5 in

@@ -1,7 +1,7 @@
 -- `contexts_after` meets its contract. Assumes nothing.
-use types.Run.{OneOf, miss}
-use Rattle.rows.proofs.Kit.{ℕ, _≡_, refl, sym, List, [], _∷_, tagOf, false, or-false, needs}
-use Rattle.directive_header.{specs.declared.IgvmDirectiveHeader.IgvmDirectiveHeader, specs.declared.IgvmDirectiveHeader.the-variants.{PageData, ParameterArea, VpCount, EnvironmentInfo, Srat, Madt, Slit, Pptt, MmioRanges, MemoryMap, CommandLine, DeviceTree, RequiredMemory, SnpVpContext, X64NativeVpContext, X64VbsVpContext, AArch64VbsVpContext, AArch64CcaVpContext, ParameterInsert, ErrorRange, SnpIdBlock, VbsMeasurement}, proofs.IgvmDirectiveHeader.the-type}
+use types.Run.{OneOf}
+use Rattle.rows.proofs.Kit.{ℕ, _≡_, sym, List, [], _∷_, tagOf, false, or-false, needs}
+use Rattle.directive_header.{specs.declared.IgvmDirectiveHeader.IgvmDirectiveHeader, proofs.IgvmDirectiveHeader.the-type, proofs.DirectiveLaws.not-kind}
 use Rattle.rules.specs.Directives.{isContext}
 use Rattle.directive_check.proofs.{DirectiveRecordLaws.holds-next, contexts_after.Statement.statement}
 use Rattle.directive_check.proofs.contexts_after.Tie as tie
@@ -11,28 +11,7 @@ others = 0 ∷ 1 ∷ 2 ∷ 3 ∷ 4 ∷ 5 ∷ 6 ∷ 7 ∷ 8 ∷ 9 ∷ 10 ∷ 11 �
 
 -- a header of a kind other than 47 and 48 is no VBS context
 no-context : (level bits : ℕ) (h : IgvmDirectiveHeader) → OneOf others (tagOf the-type h) → isContext level bits h ≡ false
-no-context level bits (PageData a b c d e) o = refl
-no-context level bits (ParameterArea a b c) o = refl
-no-context level bits (VpCount a) o = refl
-no-context level bits (EnvironmentInfo a) o = refl
-no-context level bits (Srat a) o = refl
-no-context level bits (Madt a) o = refl
-no-context level bits (Slit a) o = refl
-no-context level bits (Pptt a) o = refl
-no-context level bits (MmioRanges a) o = refl
-no-context level bits (MemoryMap a) o = refl
-no-context level bits (CommandLine a) o = refl
-no-context level bits (DeviceTree a) o = refl
-no-context level bits (RequiredMemory a b c d) o = refl
-no-context level bits (SnpVpContext a b c d) o = refl
-no-context level bits (X64NativeVpContext a b c) o = refl
-no-context level bits (X64VbsVpContext a b c) o = absurd (miss others 15 tt o)
-no-context level bits (AArch64VbsVpContext a b c) o = absurd (miss others 16 tt o)
-no-context level bits (AArch64CcaVpContext a b c) o = refl
-no-context level bits (ParameterInsert a) o = refl
-no-context level bits (ErrorRange a b c) o = refl
-no-context level bits (SnpIdBlock a b) o = refl
-no-context level bits (VbsMeasurement a b) o = refl
+no-context level bits h o = simp (not-kind others h 15 tt o, not-kind others h 16 tt o)
 
 returns : tie.Need-returns
 returns c =

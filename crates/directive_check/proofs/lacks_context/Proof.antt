@@ -1,4 +1,3 @@
--- `lacks_context` meets its contract. Assumes nothing.
 use Rattle.rows.proofs.Kit.{needs}
 use Rattle.directive_check.specs.Record.{lacksContext}
 use Rattle.directive_check.proofs.lacks_context.Statement.{statement}
@@ -6,7 +5,7 @@ use Rattle.directive_check.proofs.lacks_context.Tie as tie
 
 returns : tie.Need-returns
 unfolding lacksContext
-returns c = cc
+returns c = c .lacks .ensures
 
 pub lacks-context-spec : {M : Type 1} → statement M
-lacks-context-spec = tie.close (tie.spec (λ c κs. search needs) (λ c κs. search needs) returns)
+lacks-context-spec = tie.close (tie.spec (λ c κs. search needs) returns)

@@ -1,50 +1,53 @@
--- `validate` meets its contract. Assumes nothing.
-use types.Run.{OneOf, miss}
-use Rattle.rows.proofs.Kit.{ℕ, _≡_, refl, List, [], _∷_, tagOf, needs}
-use Rattle.igvm_defs.specs.Refusals.{noFault}
-use Rattle.directive_header.{specs.declared.IgvmDirectiveHeader.IgvmDirectiveHeader, specs.declared.IgvmDirectiveHeader.the-variants.{PageData, ParameterArea, VpCount, EnvironmentInfo, Srat, Madt, Slit, Pptt, MmioRanges, MemoryMap, CommandLine, DeviceTree, RequiredMemory, SnpVpContext, X64NativeVpContext, X64VbsVpContext, AArch64VbsVpContext, AArch64CcaVpContext, ParameterInsert, ErrorRange, SnpIdBlock, VbsMeasurement}, proofs.IgvmDirectiveHeader.the-type}
-use Rattle.rules.specs.Directives.{validateDirective}
+use Rattle.rows.proofs.Kit.{List, [], _∷_, ℕ, _∙_, needs}
+use Rattle.igvm_defs.specs.Refusals.{isFault}
+use Rattle.directive_header.proofs.DirectiveLaws.{not-kind}
 use Rattle.directive_check.proofs.validate.Statement.{statement}
 use Rattle.directive_check.proofs.validate.Tie as tie
 
+-- the places of the kinds that have no arm of their own
 abbrev others : List ℕ
 others = 2 ∷ 3 ∷ 4 ∷ 5 ∷ 6 ∷ 7 ∷ 8 ∷ 9 ∷ 10 ∷ 11 ∷ 14 ∷ 15 ∷ 16 ∷ 17 ∷ 20 ∷ 21 ∷ []
 
--- a header that has no arm of its own has nothing to refuse
-accepts : (h : IgvmDirectiveHeader) → OneOf others (tagOf the-type h) → noFault ≡ validateDirective h
-accepts (PageData a b c d e) o = absurd (miss others 0 tt o)
-accepts (ParameterArea a b c) o = absurd (miss others 1 tt o)
-accepts (VpCount a) o = refl
-accepts (EnvironmentInfo a) o = refl
-accepts (Srat a) o = refl
-accepts (Madt a) o = refl
-accepts (Slit a) o = refl
-accepts (Pptt a) o = refl
-accepts (MmioRanges a) o = refl
-accepts (MemoryMap a) o = refl
-accepts (CommandLine a) o = refl
-accepts (DeviceTree a) o = refl
-accepts (RequiredMemory a b c d) o = absurd (miss others 12 tt o)
-accepts (SnpVpContext a b c d) o = absurd (miss others 13 tt o)
-accepts (X64NativeVpContext a b c) o = refl
-accepts (X64VbsVpContext a b c) o = refl
-accepts (AArch64VbsVpContext a b c) o = refl
-accepts (AArch64CcaVpContext a b c) o = refl
-accepts (ParameterInsert a) o = absurd (miss others 18 tt o)
-accepts (ErrorRange a b c) o = absurd (miss others 19 tt o)
-accepts (SnpIdBlock a b) o = refl
-accepts (VbsMeasurement a b) o = refl
+returns : tie.Need-returns
+unfolding isFault
+returns c =
+    let b = c .before .before .before in
+    rw (b .before .before .h .given .1, ← b .on-page .ensures) (c .or3 .ensures .is ∙ c .before .or2 .ensures .later _ ∙ c .before .before .or .ensures .later _)
 
 returns-2 : tie.Need-returns-2
-returns-2 c = rw (c .before .before .h2 .given .1) (c .parameter-area-fault .ensures)
+unfolding isFault
+returns-2 c =
+    let b = c .before .before in
+    rw (b .before .before .h2 .given .1, ← b .on-page2 .ensures) (c .or5 .ensures .is ∙ c .before .or4 .ensures .later _)
 
 returns-3 : tie.Need-returns-3
-returns-3 c = rw (c .before .before .h3 .given .1) (c .required-memory-fault .ensures)
+unfolding isFault
+returns-3 c =
+    let b = c .before .before .before in
+    rw (b .before .before .h3 .given .1, ← b .on-page3 .ensures, ← c .before .on-page4 .ensures) (c .or7 .ensures .is ∙ c .before .before .or6 .ensures .later _)
+
+returns-4 : tie.Need-returns-4
+unfolding isFault
+returns-4 c = rw (c .before .before .before .h4 .given .1, ← c .before .on-page5 .ensures) (c .or8 .ensures .is)
+
+returns-5 : tie.Need-returns-5
+unfolding isFault
+returns-5 c = rw (c .before .before .before .h5 .given .1, ← c .before .on-page6 .ensures) (c .or9 .ensures .is)
+
+returns-6 : tie.Need-returns-6
+unfolding isFault
+returns-6 c = rw (c .before .before .before .h6 .given .1, ← c .before .on-page7 .ensures) (c .or10 .ensures .is)
+
+returns-7 : tie.Need-returns-7
+returns-7 c =
+    let h = c .before .args .h in
+    let k = c .match .keys7 in
+    simp (not-kind others h 0 tt k, not-kind others h 1 tt k, not-kind others h 12 tt k, not-kind others h 13 tt k, not-kind others h 18 tt k, not-kind others h 19 tt k)
 
 pub validate-spec : {M : Type 1} → statement M
 validate-spec =
-    tie.close (tie.spec (λ c. search needs) (λ c κs. search needs) (λ c. search needs) (λ c κs. search needs) (λ c. search needs)
-    (λ c κs. search needs) (λ c. search needs) (λ c κs. search needs) (λ c. search needs) (λ c κs. search needs) (λ c. search needs)
-    (λ c κs. search needs) (λ c. rw (c .before .before .h .given .1) (c .page-data-fault .ensures)) returns-2 returns-3
-    (λ c. rw (c .before .before .h4 .given .1) (c .gpa-fault .ensures)) (λ c. rw (c .before .before .h5 .given .1) (c .gpa-fault2 .ensures))
-    (λ c. rw (c .before .before .h6 .given .1) (c .gpa-fault3 .ensures)) (λ c. accepts (c .before .args .h) (c .match .keys7)))
+    tie.close (tie.spec (λ c. search needs) (λ c κs. search needs) (λ c κs. search needs) (λ c κs. search needs) (λ c κs. search needs)
+    (λ c. search needs) (λ c κs. search needs) (λ c κs. search needs) (λ c κs. search needs) (λ c. search needs) (λ c κs. search needs)
+    (λ c κs. search needs) (λ c. search needs) (λ c. search needs) (λ c κs. search needs) (λ c κs. search needs) (λ c. search needs)
+    (λ c κs. search needs) (λ c κs. search needs) (λ c. search needs) (λ c κs. search needs) (λ c κs. search needs) (λ c. search needs)
+    (λ c κs. search needs) (λ c κs. search needs) returns returns-2 returns-3 returns-4 returns-5 returns-6 returns-7)

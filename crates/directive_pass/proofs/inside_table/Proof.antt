@@ -1,6 +1,5 @@
-use types.Run.{miss}
-use Rattle.rows.proofs.Kit.{ℕ, sym, _∙_, List, [], _∷_, needs}
-use Rattle.rules.proofs.Acceptance.{inside-table}
+use Rattle.rows.proofs.Kit.{ℕ, _∙_, List, [], _∷_, needs}
+use Rattle.directive_header.proofs.DirectiveLaws.{not-kind}
 use Rattle.directive_pass.proofs.inside_table.Statement.{statement}
 use Rattle.directive_pass.proofs.inside_table.Tie as tie
 
@@ -12,7 +11,7 @@ returns : tie.Need-returns
 returns c = λ xs held. rw (c .before .before .before .before .before .before .h .given .1) (c .any-table-holds .ensures ∙ held _ _)
 
 returns-2 : tie.Need-returns-2
-returns-2 c = λ xs held. sym (inside-table xs (c .before .args .h) .1 (λ p e j r l o. absurd (miss others 18 tt (rw e at (c .match .keys2)))))
+returns-2 c xs held = rw (not-kind others (c .before .args .h) 18 tt (c .match .keys2))
 
 pub inside-table-spec : {M : Type 1} → statement M
 inside-table-spec = tie.close (tie.spec (λ c. search needs) (λ c κs. search needs) returns returns-2)

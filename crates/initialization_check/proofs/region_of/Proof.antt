@@ -12,5 +12,5 @@ returns-3 c =
 pub region-of-spec : {M : Type 1} → statement M
 region-of-spec =
     tie.close (tie.spec (λ c. search needs) (λ c κs. search needs) (λ c. search needs) (λ c κs. search needs)
-    (λ c. rw (c .before .before .h .given .1, c .found-region .ensures))
-    (λ c. rw (c .before .before .h2 .given .1, c .found-region2 .ensures)) returns-3)
+    (λ c. rw (c .before .before .h .given .1, c .header-region .ensures))
+    (λ c. rw (c .before .before .h2 .given .1, c .header-region2 .ensures)) returns-3)

@@ -3,7 +3,7 @@ use Rattle.igvm_defs.specs.Refusals.{isFault}
 use Rattle.sheet.{specs.Head.headOf, specs.Table.{rowKind, rowLength, bodyOf}}
 use Rattle.platform_header.specs.Platforms.{supportedPlatformOf}
 use Rattle.masks.specs.Masks.{shares}
-use Rattle.rules.specs.Accepted.{ownPlatformFault}
+use Rattle.rules.specs.Platforms.{ownPlatformFault}
 use Rattle.sheet_headers.specs.Headers.{sheetHeaders}
 use Rattle.platform_accept.proofs.{PlatformLaws.{own-says, body-part, part-long, Reached, reached-none, reached-more}, accept.Statement.statement}
 use Rattle.platform_accept.proofs.accept.Tie as tie

@@ -1,5 +1,6 @@
 use Rattle.rows.{proofs.Kit.{_≡_, refl, Option, none, some, ℕ, _-_, _≤_, arith, needs, eqb, getD}, specs.Below.lastBelow, proofs.BelowLaws.last-more}
-use Rattle.platform_check.specs.{declared.Platforms.Platforms, Record.{typeIsCca, lastTypeIsCca}}
+use Rattle.rules.specs.Options.{passes}
+use Rattle.platform_check.specs.{declared.Platforms.Platforms, Record.lastTypeIsCca}
 use Rattle.platform_check.proofs.Platforms.last_is_cca.Statement.{statement}
 use Rattle.platform_check.proofs.Platforms.last_is_cca.Tie as tie
 
@@ -8,7 +9,7 @@ abbrev typeAt : Platforms → Option ℕ → ℕ
 typeAt r none = 255
 typeAt r (some i) = getD (r .types) i 0
 
-cca-type : (r : Platforms) (o : Option ℕ) → eqb (typeAt r o) 6 ≡ typeIsCca r o
+cca-type : (r : Platforms) (o : Option ℕ) → eqb (typeAt r o) 6 ≡ passes (λ i. eqb (getD (r .types) i 0) 6) o
 cca-type r none = refl
 cca-type r (some i) = refl
 

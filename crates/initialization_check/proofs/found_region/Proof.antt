@@ -1,6 +1,0 @@
-use Rattle.rows.proofs.Kit.{needs}
-use Rattle.initialization_check.proofs.found_region.Statement.{statement}
-use Rattle.initialization_check.proofs.found_region.Tie as tie
-
-pub found-region-spec : {M : Type 1} → statement M
-found-region-spec = tie.close (tie.spec (λ c κs. search needs) (λ c. rw (c .code .ensures .0)))
