@@ -5,7 +5,7 @@ use Rattle.igvm_defs.{specs.declared.Arch.Arch, specs.declared.Fault.Fault, spe
 use Rattle.sheet.{specs.declared.Cursor.Cursor, specs.Head.{limits, headOf}, specs.Table.{rowKind, bodyOf}, specs.Read.Readable, specs.Walk.cursorAt, proofs.Readable.readable-bounds}
 use Rattle.platform_header.specs.declared.IgvmPlatformHeader.{IgvmPlatformHeader}
 use Rattle.initialization_header.{specs.declared.IgvmInitializationHeader.IgvmInitializationHeader, specs.Initializations.initializationOf}
-use Rattle.rules.{specs.Verdict.{Headers, initializationFaults, initializationsRefusal}, specs.declared.Region.Region, specs.Regions.overlap}
+use Rattle.rules.{specs.Headers.Headers, specs.Verdict.{initializationFaults, initializationsRefusal}, specs.declared.Region.Region, specs.Regions.overlap}
 use Rattle.platform_check.{specs.declared.Platforms.Platforms, specs.Record.HoldsPlatforms, proofs.RecordLaws.holds-count}
 use Rattle.extents.{specs.declared.Reach.Reach, specs.Extents.{apartFrom, Covers}, proofs.ExtentLaws.covers-more}
 use Rattle.initialization_check.{specs.declared.RelocRegions.RelocRegions, specs.Record.{HoldsRegions, HoldsClashes, InitializationStepped, stored}, proofs.RecordLaws.{holds-stored, holds-clashes}}
