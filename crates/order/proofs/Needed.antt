@@ -2,7 +2,7 @@
 -- mask free to move, and with bytes left over. Each by two sheets, the first accepted and the second refused.
 -- Assumes nothing.
 use lib.Count.{ones, onesIn}
-use Rattle.rows.{proofs.Kit.{_≡_, refl, true≢false, _≢_, ℕ, zero, suc, _+_, _<_, arith}, specs.Below.{anyBelow, firstBelow, lastBelow, sumBelow}}
+use Rattle.rows.{proofs.Kit.{_≡_, refl, true≢false, _≢_}, specs.Below.{anyBelow, firstBelow, lastBelow, sumBelow}}
 use Rattle.le.specs.Le.{leAt}
 use Rattle.igvm_defs.{specs.Refusals.{refusal, isFault, isRefusal, inRow, orElse, firstFault}, specs.Kinds.{spans, kindOf, fields, lengthOk}, specs.Platforms.{platformTypes, isPlatformType, platformTypeOf}, proofs.Runs._⨾_}
 use Rattle.sheet.{specs.Head.{limits, headOf, layoutOk, withinLimits, startFault, revisionOf, pageSizeFault}, specs.Table.{rowKind, rowLength, offsetOf, bodyOf}, specs.Read.{listAt, codesOk, rowFault, endFault, rowsRefusal, readRefusal, sheetRefusal}}
@@ -15,7 +15,7 @@ use Rattle.rules.{specs.Regions.regionPasses, specs.Platforms.{validatePlatform
 use Rattle.sheet_headers.specs.Headers.{sheetHeaders}
 use Rattle.answers.{proofs.AnswerLaws.accepted-readable, specs.Verdict.verdictRefusal}
 use Rattle.order.specs.{Sheets.{areaFirst, areaLast, insertLast, insertFirst, ccaLast, ccaFirst, plain, longer}, Weakened.{Statement, Whole, AnyEnd, NoneTied, OneAreaNotInserted}, Reordered.{OneMask, OneArea, Reordered}, Demand.Accepted}
-use Rattle.order.proofs.{Pairings.{alike, swap, unmoved, exchanged}, Theorem.demand-3}
+use Rattle.order.proofs.{Pairings.{alike, unmoved, exchanged}, Theorem.demand-3}
 
 verdicts :
     (Accepted limits areaFirst)
@@ -48,7 +48,7 @@ areas-keep f =
     let accepted = verdicts .0 in
     let refused = verdicts .1 in
     let platforms = unmoved 1 (alike refl refl refl ⨾ tt) in
-    let directives = exchanged 0 (alike refl refl refl ⨾ alike refl refl refl ⨾ tt) (λ i j l m t. absurd t) in
+    let directives = exchanged 0 (alike refl refl refl ⨾ alike refl refl refl ⨾ tt) (λ t. t) in
     true≢false (rw refused at (f areaFirst areaLast (accepted-readable limits areaFirst accepted) refl refl platforms (unmoved 0 tt) directives accepted))
 
 -- so must the inserts among them: here the area is inserted before it is allocated
@@ -58,14 +58,8 @@ inserts-keep f =
     let accepted = verdicts .2 in
     let refused = verdicts .3 in
     let platforms = unmoved 1 (alike refl refl refl ⨾ tt) in
-    let directives = exchanged 0 (alike refl refl refl ⨾ alike refl refl refl ⨾ tt) keeps in
+    let directives = exchanged {a = insertLast} {Tied = OneAreaNotInserted insertLast} {first = 1} 0 (alike refl refl refl ⨾ alike refl refl refl ⨾ tt) (λ t. t .1 refl) in
     true≢false (rw refused at (f insertLast insertFirst (accepted-readable limits insertLast accepted) refl refl platforms (unmoved 0 tt) directives accepted))
-  where
-    keeps : (i j : ℕ) → i < j → j < 2 → OneAreaNotInserted insertLast (1 + i) (1 + j) → swap i < swap j
-    keeps zero zero l m t = absurd (omega arith)
-    keeps zero (suc zero) l m t = absurd (t .1 refl)
-    keeps zero (suc (suc j)) l m t = absurd (omega arith)
-    keeps (suc i) j l m t = absurd (omega arith)
 
 -- platforms of one mask must keep theirs: here CCA is the last no more
 pub platforms-keep : Statement Whole NoneTied OneArea → ⊥
@@ -73,7 +67,7 @@ unfolding ccaLast ccaFirst isRefusal headOf rowKind rowLength offsetOf bodyOf ki
 platforms-keep f =
     let accepted = verdicts .4 in
     let refused = verdicts .5 in
-    let platforms = exchanged 0 (alike refl refl refl ⨾ alike refl refl refl ⨾ tt) (λ i j l m t. absurd t) in
+    let platforms = exchanged 0 (alike refl refl refl ⨾ alike refl refl refl ⨾ tt) (λ t. t) in
     let initializations = unmoved 1 (alike refl refl refl ⨾ tt) in
     true≢false (rw refused at (f ccaLast ccaFirst (accepted-readable limits ccaLast accepted) refl refl platforms initializations (unmoved 0 tt) accepted))
 

@@ -21,6 +21,16 @@ swap-twice zero = refl
 swap-twice (suc zero) = refl
 swap-twice (suc (suc i)) = refl
 
+-- of two other rows the first stays the first
+pub swap-keeps : (i j : ℕ) → i < j → (i ≡ 0 → j ≡ 1 → ⊥) → swap i < swap j
+swap-keeps zero zero l n = absurd (omega arith)
+swap-keeps zero (suc zero) l n = absurd (n refl refl)
+swap-keeps zero (suc (suc j)) l n = omega arith
+swap-keeps (suc i) zero l n = absurd (omega arith)
+swap-keeps (suc i) (suc zero) l n = absurd (omega arith)
+swap-keeps (suc zero) (suc (suc j)) l n = omega arith
+swap-keeps (suc (suc i)) (suc (suc j)) l n = l
+
 abbrev pub alike : {a b : List ℕ} {k m : ℕ} → rowKind b m ≡ rowKind a k → rowLength b m ≡ rowLength a k
     → take (fields (rowKind a k)) (bodyOf b m) ≡ take (fields (rowKind a k)) (bodyOf a k) → Alike a b k m
 alike kind long fields = record { kind = kind; bodyLength = long; bodyFields = fields }
@@ -40,10 +50,10 @@ module _ {a b : List ℕ} {Tied : ℕ → ℕ → Type 0} {first : ℕ} where
         keeps = λ i j l m t. l;
       }
 
-  -- the first two of two rows or more
-  abbrev pub exchanged : (n : ℕ) → All (λ i. Alike a b (first + i) (first + swap i)) 0 (suc (suc n))
-      → ((i j : ℕ) → i < j → j < suc (suc n) → Tied (first + i) (first + j) → swap i < swap j) → PairedRows a b Tied first (suc (suc n))
-  exchanged n rows keeps =
+  -- the first two of two rows or more, which are not tied
+  abbrev pub exchanged : (n : ℕ) → All (λ i. Alike a b (first + i) (first + swap i)) 0 (suc (suc n)) → (Tied (first + 0) (first + 1) → ⊥)
+      → PairedRows a b Tied first (suc (suc n))
+  exchanged n rows untied =
       record {
         to = swap;
         from = swap;
@@ -52,5 +62,5 @@ module _ {a b : List ℕ} {Tied : ℕ → ℕ → Type 0} {first : ℕ} where
         from-to = λ i l. rw swap-twice;
         to-from = λ i l. rw swap-twice;
         alike = λ i l. each (λ i. Alike a b (first + i) (first + swap i)) 0 (suc (suc n)) rows i (omega arith) (omega arith);
-        keeps = keeps;
+        keeps = λ i j l m t. swap-keeps i j l (λ e f. untied (rw (e, f) at t));
       }

@@ -1,7 +1,7 @@
 -- A reordering that is not the identity, on bytes: the first two rows of each list are exchanged, and page, initial and opaque bytes are changed.
 -- Assumes nothing.
 use lib.Count.{ones, onesIn}
-use Rattle.rows.{proofs.Kit.{_≡_, refl, false, false≢true, List, ℕ, zero, suc, _+_, _*_, _/_, _<_, arith, length}, specs.Below.{anyBelow, firstBelow, lastBelow, sumBelow}}
+use Rattle.rows.{proofs.Kit.{_≡_, refl, false, false≢true, List, ℕ, _+_, _*_, _/_, _<_, arith, length}, specs.Below.{anyBelow, firstBelow, lastBelow, sumBelow}}
 use Rattle.le.specs.Le.{leAt}
 use Rattle.igvm_defs.{specs.Refusals.{isFault, isRefusal, inRow, orElse, firstFault}, specs.Kinds.{spans, kindOf, fields, lengthOk}, specs.Platforms.{platformTypes, isPlatformType, platformTypeOf}, specs.Vtls.vtlOf, proofs.Runs._⨾_}
 use Rattle.sheet.{specs.Head.{limits, headOf, layoutOk, withinLimits, startFault, revisionOf, pageSizeFault}, specs.Table.{rowKind, rowLength, offsetOf, bodyOf}, specs.Read.{listAt, codesOk, rowFault, endFault, rowsRefusal, readRefusal, sheetRefusal}}
@@ -13,36 +13,20 @@ use Rattle.addresses.specs.Addresses.{isMultiple, meets, endsBeyond}
 use Rattle.rules.{specs.Regions.{regionPasses, tablesShare, overlap}, specs.Platforms.{validatePlatform, sameType, ownPlatformFault, platformFault, lastIsCca}, specs.Initializations.{validateRegion, validateTable, bitWithoutCca, initializationFault}, specs.Directives.{wrongContextArch, allocates, inserts, isAllocated, badArea, ownDirectiveFault, directiveFault, noContext}, specs.Verdict.{noPlatform, noMatchingVpContext, platformsRefusal, initializationsRefusal, directivesRefusal, headersRefusal}}
 use Rattle.sheet_headers.specs.Headers.{sheetHeaders}
 use Rattle.answers.{proofs.AnswerLaws.accepted-readable, specs.Verdict.verdictRefusal, specs.Relocations.{relocationsOf, wordsAfter}}
-use Rattle.order.specs.{Sheets.{sheetA, sheetB}, Reordered.{OneMask, OneArea, Reordered}, Demand.{Accepted, SameAnswers}}
-use Rattle.order.proofs.{Pairings.{alike, swap, exchanged}, Theorem.demand-3}
+use Rattle.order.specs.{Sheets.{sheetA, sheetB}, Reordered.Reordered, Demand.{Accepted, SameAnswers}}
+use Rattle.order.proofs.{Pairings.{alike, exchanged}, Theorem.demand-3}
 
+-- the two platforms have two masks; the context names no area
 pub reordered : Reordered sheetA sheetB
 unfolding sheetA sheetB headOf rowKind rowLength offsetOf bodyOf kindOf spans fields leAt sumBelow areaNamed
 reordered =
     record {
       head = refl;
       whole = refl;
-      platforms = exchanged 0 (alike refl refl refl ⨾ alike refl refl refl ⨾ tt) other-masks;
-      initializations = exchanged 2 (alike refl refl refl ⨾ alike refl refl refl ⨾ alike refl refl refl ⨾ alike refl refl refl ⨾ tt) (λ i j l m t. absurd t);
-      directives = exchanged 2 (alike refl refl refl ⨾ alike refl refl refl ⨾ alike refl refl refl ⨾ alike refl refl refl ⨾ tt) one-area;
+      platforms = exchanged 0 (alike refl refl refl ⨾ alike refl refl refl ⨾ tt) (λ t. omega arith);
+      initializations = exchanged 2 (alike refl refl refl ⨾ alike refl refl refl ⨾ alike refl refl refl ⨾ alike refl refl refl ⨾ tt) (λ t. t);
+      directives = exchanged 2 (alike refl refl refl ⨾ alike refl refl refl ⨾ alike refl refl refl ⨾ alike refl refl refl ⨾ tt) (λ t. let (x, p, q) = t in false≢true (cc));
     }
-  where
-    -- the two platforms have two masks
-    other-masks : (i j : ℕ) → i < j → j < 2 → OneMask sheetA (0 + i) (0 + j) → swap i < swap j
-    other-masks zero zero l m t = absurd (omega arith)
-    other-masks zero (suc zero) l m t = absurd (omega arith)
-    other-masks zero (suc (suc j)) l m t = absurd (omega arith)
-    other-masks (suc i) j l m t = absurd (omega arith)
-
-    -- the context names no area; the area and its parameter keep their order
-    one-area : (i j : ℕ) → i < j → j < 4 → OneArea sheetA (6 + i) (6 + j) → swap i < swap j
-    one-area zero j l m t = let (x, p, q) = t in absurd (false≢true (cc))
-    one-area (suc zero) zero l m t = absurd (omega arith)
-    one-area (suc zero) (suc zero) l m t = absurd (omega arith)
-    one-area (suc zero) (suc (suc j)) l m t = omega arith
-    one-area (suc (suc i)) zero l m t = absurd (omega arith)
-    one-area (suc (suc i)) (suc zero) l m t = absurd (omega arith)
-    one-area (suc (suc i)) (suc (suc j)) l m t = l
 
 pub accepted-A : Accepted limits sheetA
 unfolding

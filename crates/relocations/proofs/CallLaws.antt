@@ -1,6 +1,6 @@
 -- What the calls answer where one of their refusals applies, and where none does.
 -- Assumes nothing.
-use Rattle.rows.{proofs.Kit.{_≡_, refl, ap, sym, _∙_, Bool, true, false, _&&_, List, Option, none, some, ℕ, zero, suc, _*_, _/_, _≤_, _<_, arith, ltb, length}, proofs.Bools.{which, or-false-parts, ltb-same}}
+use Rattle.rows.{proofs.Kit.{inl, inr, _≡_, refl, ap, sym, _∙_, Bool, true, false, _&&_, List, Option, none, some, ℕ, zero, suc, _*_, _/_, _≤_, _<_, arith, ltb, length}, proofs.Bools.{which, or-false-parts, ltb-same}}
 use Rattle.igvm_defs.{specs.declared.Refusal.Refusal, specs.Refusals.{noRefusal, isRefusal, inRow, orElse}, proofs.RefusalLaws.{orElse-first, orElse-later, else-refusal, row-refusal, no-fault-row}}
 use Rattle.sheet.{specs.Head.{Limits, limits}, specs.Read.Readable, proofs.Readable.readable-bounds}
 use Rattle.rules.{specs.Relocations.{regionAt, pageTableAt}, specs.declared.IgvmRelocatableRegion.IgvmRelocatableRegion, specs.declared.PageTableRegion.PageTableRegion}
