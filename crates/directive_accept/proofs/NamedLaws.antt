@@ -1,7 +1,7 @@
 -- Rows in order that name an area, and the rows with a table of areas.
 -- Assumes nothing.
-use Rattle.rows.{proofs.Kit.{ℕ, _+_, _-_, _≤_, _<_, arith, _≡_, refl, sym, _∙_, true, false, or-false, List, [], _∷_, length, getD, take, drop, replicate}, specs.Below.anyBelow, specs.Rows.{Rows, before}}
-use Rattle.sheet.{specs.declared.Cursor.Cursor, specs.Head.{headOf, rowCount, firstDirective}, specs.Table.{rowKind, rowLength, bodyOf}, specs.Walk.ReadTo}
+use Rattle.rows.{proofs.Kit.{ℕ, _-_, _≤_, _<_, arith, _≡_, refl, sym, _∙_, true, false, or-false, List, [], _∷_, length, getD, take, drop, replicate}, specs.Below.anyBelow, specs.Rows.{Rows, before}}
+use Rattle.sheet.{specs.declared.Cursor.Cursor, specs.Head.{headOf, rowCount, firstDirective}, specs.Table.{rowKind, bodyOf}, specs.Walk.ReadTo}
 use Rattle.directive_header.{specs.declared.IgvmDirectiveHeader.IgvmDirectiveHeader, specs.Directives.directiveOf, specs.Fields.isParameter}
 use Rattle.masks.specs.Masks.{shares}
 use Rattle.rules.specs.Directives.{isContext}

@@ -1,8 +1,8 @@
 -- The pass over the initialization rows: what holds at a turn of its loop, and that a row which it accepts leads to the next turn.
 -- Assumes nothing.
-use Rattle.rows.{proofs.Kit.{_≡_, refl, sym, ap, _∙_, Bool, true, false, cond, not, _&&_, _||_, List, none, some, ℕ, _+_, _-_, _*_, _≤_, _<_, arith, length, take, drop, set}, specs.Below.anyBelow, specs.Rows.{Rows, any, before}, proofs.Bools.or-false-parts, proofs.BelowLaws.any-more}
+use Rattle.rows.{proofs.Kit.{_≡_, refl, sym, _∙_, Bool, true, false, cond, not, _&&_, _||_, List, none, some, ℕ, _+_, _-_, _*_, _≤_, _<_, arith, length, take, drop, set}, specs.Below.anyBelow, specs.Rows.{Rows, any, before}, proofs.Bools.or-false-parts, proofs.BelowLaws.any-more}
 use Rattle.igvm_defs.{specs.declared.Arch.Arch, specs.Refusals.isFault, specs.Revision.isX64}
-use Rattle.sheet.{specs.declared.Cursor.Cursor, specs.Head.{headOf, bodiesAt}, specs.Table.{rowKind, rowLength, offsetOf, bodyOf}, specs.Walk.ReadTo, proofs.Readable.{RowOk, body-length, initialization-list}, proofs.ReadLaws.read-more}
+use Rattle.sheet.{specs.declared.Cursor.Cursor, specs.Head.{headOf, bodiesAt}, specs.Table.{rowKind, bodyOf}, specs.Walk.ReadTo, proofs.Readable.{body-length, initialization-list}}
 use Rattle.platform_header.specs.declared.IgvmPlatformHeader.{IgvmPlatformHeader}
 use Rattle.initialization_header.{specs.declared.IgvmInitializationHeader.IgvmInitializationHeader, specs.Initializations.initializationOf}
 use Rattle.rules.{specs.declared.Region.Region, specs.Regions.{regionOf, regionPasses, tablesShare, overlap}, specs.Initializations.{withoutCca, initializationFault}, specs.Accepted.{ownInitializationFault, regionsClash}, specs.Verdict.initializationFaults, proofs.RegionLaws.clash-any, proofs.Acceptance.initialization-says}

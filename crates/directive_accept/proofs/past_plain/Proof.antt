@@ -47,5 +47,5 @@ loop-again c = plain-onward _ _ _ _ _ (next (c .before .before)) (rw (c .before 
 pub past-plain-spec : {M : Type 1} → statement M
 past-plain-spec =
     tie.close (tie.spec Inv-loop μ-loop (λ c. let a = c .before .pre .1 in plain-none _ _ _ (a .0) (a .1)) row-from-requires
-    (λ c κs. room c) (λ c κs. c .before .before .before .before .before .loop .inv .masks) returns after-requires
-    past-like-requires loop-less loop-again (λ c. c .before .before .loop .inv))
+    (λ c κs. room c) (λ c κs. c .before .before .before .before .before .loop .inv .masks) returns after-requires past-like-requires
+    loop-less loop-again (λ c. c .before .before .loop .inv))

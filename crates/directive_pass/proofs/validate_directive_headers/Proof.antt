@@ -98,6 +98,7 @@ pub validate-directive-headers-spec : {M : Type 1} → statement M
 validate-directive-headers-spec =
     tie.close (tie.spec Inv-loop μ-loop (λ c. search needs) (λ c. search needs) (λ c. search needs) (λ c. search needs)
     (λ c κs. search needs) (λ c κs. search needs) sub-i loop-holds bad-area-requires
-    (λ c κs. directive-known (c .before .before .loop .inv) (c .before .loop-test .taken)) (λ c κs. directive-room (c .before .before .before .before .before .before .before .before .loop .inv))
-    (λ c κs. search needs) (λ c κs. search needs) add-in-row add-in-row-2 (λ c κs. search needs) returns add-i loop-less
-    loop-again (λ c κs. directive-room (c .before .loop .inv)) (λ c κs. search needs) (λ c κs. search needs) returns-2)
+    (λ c κs. directive-known (c .before .before .loop .inv) (c .before .loop-test .taken))
+    (λ c κs. directive-room (c .before .before .before .before .before .before .before .before .loop .inv)) (λ c κs. search needs)
+    (λ c κs. search needs) add-in-row add-in-row-2 (λ c κs. search needs) returns add-i loop-less loop-again
+    (λ c κs. directive-room (c .before .loop .inv)) (λ c κs. search needs) (λ c κs. search needs) returns-2)

@@ -1,8 +1,8 @@
 use mir.Val.{boolByte}
 use Rattle.rows.{proofs.Kit.{_≡_, refl, Bool, true, false, not, _&&_, _||_, _+_, _-_, _*_, _≤_, _<_, length, arith, needs, not-false, now}, proofs.Bools.or-false-parts}
 use Rattle.sheet.{specs.Head.headOf, specs.Table.{rowKind, bodyOf}}
-use Rattle.sheet_reader.proofs.ReaderLaws.{Found, read-room}
 use Rattle.initialization_check.specs.Record.{regionsIn}
+use Rattle.sheet_reader.proofs.ReaderLaws.{Found, read-room}
 use Rattle.sheet_headers.specs.Headers.{sheetHeaders}
 use Rattle.initialization_row.specs.Row.{InOrder}
 use Rattle.initialization_accept.proofs.{RowsLaws.{Reached, reached-none, row-known, row-order, row-faultless, reached-next}, accept.Statement.statement}
@@ -131,12 +131,11 @@ accept-spec =
     tie.close (tie.spec Inv-loop μ-loop (λ c κs. search needs) loop-holds (λ c κs. let k = at-row c in (k .0, k .1)) (λ c κs. fits c)
     (λ c κs. search needs) any-tables-share-requires any-near-overlap-requires (λ c. kept c .lent .mask .0) (λ c. kept c .lent .gpa .0)
     (λ c. kept c .lent .size .0) (λ c. kept c .lent .vp .0) (λ c. kept c .lent .vtl .0) (λ c. kept c .lent .table .0)
-    (λ c. kept c .lent .number .0) (λ c. kept c .accepted)
-    (λ c. let small = room c .0 in omega arith) (λ c. room c .1) (λ c. let small = room c .0 in omega arith) (λ c. room c .2)
-    (λ c. let small = room c .0 in omega arith) (λ c. room c .3) (λ c. let small = room c .0 in omega arith) (λ c. room c .4)
-    (λ c. room c .5) (λ c. room c .6) add-rows cast-rows (λ c. let small = room (c .before) .0 in omega arith) (λ c. room (c .before) .7)
-    (λ c. search needs) add-n (λ c κs. order (c .before) .1 .ends) after-requires loop-less loop-again
-    (λ c. c .before .before .loop .inv .lent .mask .0)
+    (λ c. kept c .lent .number .0) (λ c. kept c .accepted) (λ c. let small = room c .0 in omega arith) (λ c. room c .1)
+    (λ c. let small = room c .0 in omega arith) (λ c. room c .2) (λ c. let small = room c .0 in omega arith) (λ c. room c .3)
+    (λ c. let small = room c .0 in omega arith) (λ c. room c .4) (λ c. room c .5) (λ c. room c .6) add-rows cast-rows
+    (λ c. let small = room (c .before) .0 in omega arith) (λ c. room (c .before) .7) (λ c. search needs) add-n
+    (λ c κs. order (c .before) .1 .ends) after-requires loop-less loop-again (λ c. c .before .before .loop .inv .lent .mask .0)
     (λ c. c .before .before .loop .inv .lent .gpa .0) (λ c. c .before .before .loop .inv .lent .size .0)
     (λ c. c .before .before .loop .inv .lent .vp .0) (λ c. c .before .before .loop .inv .lent .vtl .0)
     (λ c. c .before .before .loop .inv .lent .table .0) (λ c. c .before .before .loop .inv .lent .number .0)

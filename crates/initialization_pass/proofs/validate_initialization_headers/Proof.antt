@@ -86,7 +86,11 @@ pub validate-initialization-headers-spec : {M : Type 1} → statement M
 validate-initialization-headers-spec =
     tie.close (tie.spec Inv-loop μ-loop (λ c. search needs) (λ c. search needs) (λ c κs. search needs) (λ c κs. search needs)
     cursor-at-requires (λ c κs. search needs) (λ c κs. search needs) loop-holds
-    (λ c κs. initialization-known (c .before .loop .inv) (c .loop-test .taken)) check-requires (λ c κs. search needs) (λ c. let l = small (c .before .before .before .before .before .before .before .before .before .before) in omega arith) (λ c. let l = small (c .before .before .before .before .before .before .before .before .before .before) in omega arith) (λ c κs. search needs) returns (λ c. let l = room c in search needs) (λ c. let l = room c in search needs) (λ c. let l = room c in search needs) (λ c. let l = room c in search needs) (λ c. let l = room c in search needs)
-    (λ c. let l = room c in search needs) (λ c. let l = room c in search needs) (λ c. let l = room c in search needs) (λ c. let l = room c in search needs) (λ c. let l = room c in search needs) (λ c. search needs)
-    add-regions with-requires add-i (λ c. search needs) loop-again
-    (λ c. initializations-end (c .before .loop .inv) (c .loop-test .left)))
+    (λ c κs. initialization-known (c .before .loop .inv) (c .loop-test .taken)) check-requires (λ c κs. search needs)
+    (λ c. let l = small (c .before .before .before .before .before .before .before .before .before .before) in omega arith)
+    (λ c. let l = small (c .before .before .before .before .before .before .before .before .before .before) in omega arith)
+    (λ c κs. search needs) returns (λ c. let l = room c in search needs) (λ c. let l = room c in search needs)
+    (λ c. let l = room c in search needs) (λ c. let l = room c in search needs) (λ c. let l = room c in search needs)
+    (λ c. let l = room c in search needs) (λ c. let l = room c in search needs) (λ c. let l = room c in search needs)
+    (λ c. let l = room c in search needs) (λ c. let l = room c in search needs) (λ c. search needs) add-regions with-requires add-i
+    (λ c. search needs) loop-again (λ c. initializations-end (c .before .loop .inv) (c .loop-test .left)))

@@ -1,10 +1,10 @@
 use Rattle.rows.proofs.Kit.{_≡_, refl, false, not, _&&_, _||_, _+_, _-_, _^_, _≤_, _<_, arith, eqb, length, length-take, length-drop, needs, not-false, now}
 use Rattle.igvm_defs.specs.Refusals.{isFault}
 use Rattle.sheet.specs.Head.{headOf}
-use Rattle.sheet_reader.proofs.ReaderLaws.{read-room}
 use Rattle.platform_header.specs.Platforms.{supportedPlatformOf}
 use Rattle.masks.specs.Masks.{shares}
 use Rattle.rules.specs.Accepted.{ownPlatformFault}
+use Rattle.sheet_reader.proofs.ReaderLaws.{read-room}
 use Rattle.sheet_headers.specs.Headers.{sheetHeaders}
 use Rattle.platform_accept.proofs.{PlatformLaws.{own-says, Reached, reached-none, reached-more}, accept.Statement.statement}
 use Rattle.platform_accept.proofs.accept.Tie as tie

@@ -63,5 +63,5 @@ pub validate-platform-headers-spec : {M : Type 1} → statement M
 validate-platform-headers-spec =
     tie.close (tie.spec Inv-loop μ-loop (λ c. search needs) (λ c κs. search needs) (λ c κs. search needs) (λ c κs. search needs)
     new-requires (λ c κs. search needs) loop-holds (λ c κs. platform-known (c .before .loop .inv) (c .loop-test .taken)) step-requires
-    (λ c κs. search needs) (λ c. search needs) (λ c κs. search needs) returns (λ c. search needs) (λ c. search needs)
-    loop-again (λ c κs. search needs) (λ c κs. search needs) returns-2)
+    (λ c κs. search needs) (λ c. search needs) (λ c κs. search needs) returns (λ c. search needs) (λ c. search needs) loop-again
+    (λ c κs. search needs) (λ c κs. search needs) returns-2)

@@ -2,8 +2,7 @@
 use Rattle.rows.proofs.Kit.{sym, arith, needs, ne-eqb, now}
 use Rattle.igvm_defs.specs.Kinds.{kindOf, spans}
 use Rattle.initialization_header.{specs.Initializations.initializationOf, proofs.InitializationLaws.kind-initialization}
-use Rattle.regions.proofs.HeaderLaws.{not-relocatable}
-use Rattle.regions.proofs.is_region.Statement.{statement}
+use Rattle.regions.proofs.{HeaderLaws.not-relocatable, is_region.Statement.statement}
 use Rattle.regions.proofs.is_region.Tie as tie
 
 returns : tie.Need-returns

@@ -2,8 +2,7 @@
 use Rattle.rows.proofs.Kit.{sym, arith, needs, ne-eqb, now}
 use Rattle.igvm_defs.specs.Kinds.{kindOf, spans}
 use Rattle.initialization_header.{specs.Initializations.initializationOf, proofs.InitializationLaws.kind-initialization}
-use Rattle.regions.proofs.HeaderLaws.{not-page-table}
-use Rattle.regions.proofs.is_table.Statement.{statement}
+use Rattle.regions.proofs.{HeaderLaws.not-page-table, is_table.Statement.statement}
 use Rattle.regions.proofs.is_table.Tie as tie
 
 returns : tie.Need-returns

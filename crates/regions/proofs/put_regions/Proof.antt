@@ -67,5 +67,5 @@ returns c =
 pub put-regions-spec : {M : Type 1} → statement M
 put-regions-spec =
     tie.close (tie.spec Inv-loop μ-loop (λ c. search needs) (λ c. search needs) (λ c. search needs) cursor-at-requires loop-holds
-    (λ c κs. known c .listed .0) (λ c κs. known (c .before) .listed .0) table-row-requires
-    put-region-requires loop-less loop-again found-table-requires (λ c. lent-length (c .before .before .before .loop .inv)) returns)
+    (λ c κs. known c .listed .0) (λ c κs. known (c .before) .listed .0) table-row-requires put-region-requires loop-less loop-again
+    found-table-requires (λ c. lent-length (c .before .before .before .loop .inv)) returns)

@@ -61,6 +61,5 @@ returns c =
 
 pub region-at-spec : {M : Type 1} → statement M
 region-at-spec =
-    tie.close (tie.spec Inv-loop μ-loop (λ c. search needs) (λ c. search needs) cursor-at-requires loop-holds
-    (λ c κs. known c .listed) (λ c κs. search needs) (λ c κs. search needs) (λ c κs. search needs) add-seen
-    add-i (λ c. search needs) loop-again returns)
+    tie.close (tie.spec Inv-loop μ-loop (λ c. search needs) (λ c. search needs) cursor-at-requires loop-holds (λ c κs. known c .listed)
+    (λ c κs. search needs) (λ c κs. search needs) (λ c κs. search needs) add-seen add-i (λ c. search needs) loop-again returns)

@@ -44,5 +44,5 @@ returns c =
 
 pub cursor-at-spec : {M : Type 1} → statement M
 cursor-at-spec =
-    tie.close (tie.spec Inv-loop μ-loop new-requires (λ c κs. search needs) new-requires-2 loop-holds cursor-row-requires (λ c. search needs)
-    (λ c. search needs) loop-again returns)
+    tie.close (tie.spec Inv-loop μ-loop new-requires (λ c κs. search needs) new-requires-2 loop-holds cursor-row-requires
+    (λ c. search needs) (λ c. search needs) loop-again returns)

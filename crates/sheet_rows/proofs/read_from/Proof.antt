@@ -1,4 +1,4 @@
-use Rattle.rows.proofs.Kit.{_≡_, ap, _∙_, true, false, _-_, _<_, _≤_, _+_, arith, length, needs, now}
+use Rattle.rows.proofs.Kit.{_≡_, ap, _∙_, true, _-_, _<_, arith, needs, now}
 use Rattle.igvm_defs.{specs.Kinds.kindOf, specs.Refusals.isFault}
 use Rattle.sheet.{specs.declared.Cursor.Cursor, specs.Head.{headOf, rowCount}, specs.Read.{rowFault, endFault}, specs.Table.offsetOf, specs.Walk.ReadTo, proofs.ReadLaws.rows-end, proofs.Readable.{RowOk, row-says}}
 use Rattle.sheet_reader.{specs.Reading.readAt, proofs.ReaderLaws.{Found, room-found, read-after}}
