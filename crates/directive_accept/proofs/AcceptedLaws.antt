@@ -80,9 +80,7 @@ module _ (s : List ℕ) (c : Cursor) (read : ReadTo s c) (r : SheetRow) (f : Fou
       → ContextsNext contexts (directiveOf (rowKind s (c .row)) (bodyOf s (c .row))) next
       → DirectivesAccepted s (cursorAfter c r) next
   accepted-more contexts next a sound area table more =
-      let i = c .row - firstDirective s in
-      let g = sheetHeaders s in
-      let h = row-header s (c .row) (a .low) in
+      let i = c .row - firstDirective s in let g = sheetHeaders s in let h = row-header s (c .row) (a .low) in
       let none : isFault (directiveFaults g i) ≡ false =
       directive-says (g .arch) (g .initializations) (before i (g .directives)) (g .directives .row i) .1 (rw h at (sound .own), rw h at area, rw h at table)
       in
@@ -129,8 +127,7 @@ plain-none s c contexts a n = record { low = omega arith; rows = a; areas = λ a
 
 pub plain-onward : (s : List ℕ) (from c d : Cursor) (contexts : List ℕ) → PlainPassed s from c contexts → Onward s c d → PlainPassed s from d contexts
 plain-onward s from c d contexts a o =
-    let low = a .low in
-    let more = o .low in
+    let low = a .low in let more = o .low in
     record { low = omega arith; rows = o .accepted contexts (a .rows); areas = λ area. o .areas area ∙ a .areas area; masks = a .masks }
 
 -- a page in order
@@ -142,8 +139,7 @@ onward-page s c d o l r e page body part sound =
     let p : (contexts : List ℕ) → PlainRow (sheetHeaders s .arch) (rowKind s (d .row)) (bodyOf s (d .row)) contexts contexts =
     λ contexts. page-plain (sheetHeaders s .arch) (rowKind s (d .row)) (bodyOf s (d .row)) contexts (rw (← f .kind) page) (rw q at (sound (sheetHeaders s .arch)))
     in
-    let low = o .low in
-    let first = o .first in
+    let low = o .low in let first = o .first in
     record {
       low = omega arith;
       first = omega arith;

@@ -31,8 +31,7 @@ module _ (s : List ℕ) (few links areas states : List ℕ) where
       let f = list-found s (d .row) (d .at) r e (rw (b .sound .list) (omega arith)) in
       let a : AreaRow (sheetHeaders s .arch) earlier (rowKind s (d .row)) (bodyOf s (d .row)) few links areas states = rw (f .kind, part ∙ body-found s d (o .read) r f) at b in
       let param : isParameter (rowKind s (d .row)) ≡ true = rw (f .kind) at p in
-      let low = o .low in
-      let first = o .first in
+      let low = o .low in let first = o .first in
       record {
         low = omega arith;
         first = omega arith;
@@ -66,8 +65,7 @@ areas-next s c d few links areas states fewNext linksNext areasNext statesNext a
     let n : NamedRow (sheetHeaders s .arch) (sheetHeaders s .initializations) (before (d .row - firstDirective s) (sheetHeaders s .directives)) (rowKind s (d .row)) (bodyOf s (d .row)) fewNext linksNext areasNext statesNext =
     rw (f .kind, part ∙ body-found s d (a .read) r f) at row
     in
-    let low = a .low in
-    let first = a .first in
+    let low = a .low in let first = a .first in
     record {
       low = omega arith;
       first = omega arith;
@@ -82,8 +80,7 @@ areas-next s c d few links areas states fewNext linksNext areasNext statesNext a
 pub areas-onward : (s : List ℕ) (from c d : Cursor) (few links areas states : List ℕ) → AreasPassed s from c few links areas states → Onward s c d
     → AreasPassed s from d few links areas states
 areas-onward s from c d few links areas states a o =
-    let low = a .low in
-    let more = o .low in
+    let low = a .low in let more = o .low in
     record {
       low = omega arith;
       first = o .first;

@@ -73,8 +73,7 @@ pub reached-none : (s : List ℕ) (end : ℕ) (x64 : Bool) (cca : ℕ) (held : R
     → ((xs : Rows IgvmInitializationHeader) → Covers reach (before 0 xs)) → Reached s end x64 cca held numbers held numbers c reach
 unfolding anyBelow
 reached-none s end x64 cca held numbers c reach asked lent read first empty covers =
-    let i : c .row - headOf s .platforms ≡ 0 = omega arith in
-    let xs = sheetHeaders s .initializations in
+    let i : c .row - headOf s .platforms ≡ 0 = omega arith in let xs = sheetHeaders s .initializations in
     record {
       asked = asked;
       lent = lent;
@@ -95,12 +94,7 @@ module _ {s : List ℕ} {end : ℕ} {x64 : Bool} {cca : ℕ} {was : RelocRegions
   -- at a row: the table has it, and the arrays have room for its region
   pub row-known : c .row < end → (24 + 8 * c .row ≤ length s) × (c .at ≤ length s) × (c .row < 80) × (held .count < headOf s .initializations)
   row-known l =
-      let a = r .asked in
-      let p = r .accepted in
-      let q = p .read .room in
-      let h = p .holds .count in
-      let t = a .table in
-      let e = a .last in
+      let a = r .asked in let p = r .accepted in let q = p .read .room in let h = p .holds .count in let t = a .table in let e = a .last in
       omega arith
 
   -- the header of the row, by its kind and its body
@@ -119,10 +113,7 @@ module _ {s : List ℕ} {end : ℕ} {x64 : Bool} {cca : ℕ} {was : RelocRegions
       (order : InOrder (sheetHeaders s .arch) (sheetHeaders s .platforms) (rowKind s (c .row)) (bodyOf s (c .row)) found new) where
     read-next : ReadTo s (cursorAfter c row)
     read-next =
-        let p = r .accepted in
-        let low = p .low in
-        let last = r .asked .last in
-        let room = room-row s c (p .read) row f in
+        let p = r .accepted in let low = p .low in let last = r .asked .last in let room = room-row s c (p .read) row f in
         read-after s c (p .read) row f (omega arith)
         (record {
           list = order .list ∙ sym (initialization-list (headOf s) (c .row) low (omega arith));
@@ -146,18 +137,11 @@ module _ {s : List ℕ} {end : ℕ} {x64 : Bool} {cca : ℕ} {was : RelocRegions
         → ((q : Region) → apartFrom wider q ≡ true → (apartFrom reach q ≡ true) × (found ≡ true → overlap q new ≡ false))
         → Reached s end x64 cca was wasNumbers (stored held found new) (set numbers (held .count) (c .row + 1)) (cursorAfter c row) wider
     reached-next wider faultless apart =
-        let p = r .accepted in
-        let first = headOf s .platforms in
-        let last = r .asked .last in
-        let low = p .low in
-        let i = c .row - first in
+        let p = r .accepted in let first = headOf s .platforms in let last = r .asked .last in let low = p .low in let i = c .row - first in
         let xs = sheetHeaders s .initializations in
         let region : regionOf (xs .row i) ≡ cond found (some new) none = rw (← row-header) (order .region) in
-        let next : c .row + 1 - first ≡ i + 1 = omega arith in
-        let number : c .row + 1 ≡ first + i + 1 = omega arith in
-        let known = row-known l .3 in
-        let lent = r .lent in
-        let room : Room held = omega arith in
+        let next : c .row + 1 - first ≡ i + 1 = omega arith in let number : c .row + 1 ≡ first + i + 1 = omega arith in
+        let known = row-known l .3 in let lent = r .lent in let room : Room held = omega arith in
         record {
           asked = r .asked;
           lent = lent-stored (headOf s .initializations) was wasNumbers held numbers found new (c .row + 1) lent;

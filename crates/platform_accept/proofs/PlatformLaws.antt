@@ -47,11 +47,9 @@ unfolding ownPlatformFault validatePlatform isPlatformType platformTypes
 sound-says a x64 h e t =
     let (t5, st) = and-parts _ (stands (h .«platform_type») x64) t in
     let (t4, bound) = and-parts _ (ltb 1 (h .«platform_type») || eqb (h .«shared_gpa_boundary») 0) t5 in
-    let (t3, version) = and-parts _ (eqb (h .«platform_version») 1) t4 in
-    let (t2, low) = and-parts _ (leb (h .«platform_type») 6) t3 in
+    let (t3, version) = and-parts _ (eqb (h .«platform_version») 1) t4 in let (t2, low) = and-parts _ (leb (h .«platform_type») 6) t3 in
     let (one, vtl) = and-parts (isOneBit (h .«compatibility_mask»)) (eqb (h .«highest_vtl») 0 || eqb (h .«highest_vtl») 2) t2 in
-    let six = leb-true (h .«platform_type») 6 low in
-    let l : h .«platform_type» < 7 = omega arith in
+    let six = leb-true (h .«platform_type») 6 low in let l : h .«platform_type» < 7 = omega arith in
     let v : eqb (h .«platform_version») (platformTypeOf (h .«platform_type») .version) ≡ true = rw (type-row (h .«platform_type») l) version in
     rw (
       one,
@@ -178,9 +176,7 @@ pub reached-more : (s : List ℕ) (c : Cursor) (seen cca : ℕ) (b : List ℕ) (
     → Reached s (cursorAfter c r) (bitOr seen (2 ^ (h .«platform_type»))) (cond (eqb (h .«platform_type») 6) (bitOr cca (h .«compatibility_mask»)) cca)
 unfolding hasBit
 reached-more s c seen cca b h r was l e kind len part told own free =
-    let k = c .row in
-    let xs = sheetHeaders s .platforms in
-    let read = was .accepted .read in
+    let k = c .row in let xs = sheetHeaders s .platforms in let read = was .accepted .read in
     let f = kind-found s k (c .at) r e (omega arith) in
     let row : h ≡ xs .row k = told ∙ ap supportedPlatformOf (part ∙ body-found s c read r f) ∙ header-is s k in
     let (new, cca-free) = or-false-parts (shares seen (2 ^ (h .«platform_type»))) _ free in

@@ -55,8 +55,7 @@ module _ (s : List ℕ) (first n : ℕ) (f : ℕ → Fault) where
 
   pub rows-next : (c next : Cursor) (i : ℕ) → RowsReached s first n f c i → i < n → isFault (f i) ≡ false → next ≡ cursorAt s (c .row + 1)
       → RowsReached s first n f next (i + 1)
-  rows-next c next i r l e q =
-      record { below = omega arith; at = rw (q, r .at, add-assoc); passed = rw (any-more, r .passed, e) }
+  rows-next c next i r l e q = record { below = omega arith; at = rw (q, r .at, add-assoc); passed = rw (any-more, r .passed, e) }
 
   pub rows-stop : (c : Cursor) (i : ℕ) → RowsReached s first n f c i → i < n → isFault (f i) ≡ true → firstFault first n f ≡ inRow (first + i + 1) (f i)
   rows-stop c i r l t = fault-stop first n f i l (r .passed) t

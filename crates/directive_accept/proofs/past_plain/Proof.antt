@@ -19,8 +19,7 @@ next : (c : tie.Else2 Inv-loop μ-loop)
     → PlainPassed (now (c .before .before .before .before .before .before .before .before .before .args .s)) (c .before .before .before .before .before .before .before .before .before .args .from) (cursorAfter (c .before .before .before .before .before .before .before .loop .c) (c .before .before .before .before .row-from .result)) (c .before .plain-row .last .1 .1 .1 .0)
 next c =
     let st = c .before .before .before .before .before .before .before .before .before in
-    let l = c .before .before .before .before .before .if1 .taken in
-    let p = c .before .plain-row .ensures in
+    let l = c .before .before .before .before .before .if1 .taken in let p = c .before .plain-row .ensures in
     plain-next _ _ _ _ _ (c .before .before .before .before .before .before .before .loop .inv) (omega (arith, st .pre .0)) _ (c .before .before .before .before .row-from .ensures) _ (c .before .before .before .body-from .ensures) (p .0 _ (st .pre .0 .2) (not-false _ (c .if2 .left))) (p .1 .1)
 
 row-from-requires : tie.Need-row-from-requires Inv-loop μ-loop

@@ -19,8 +19,7 @@ abbrev μ-loop : tie.MeasureT-loop
 loop-holds : tie.Need-loop-holds Inv-loop μ-loop
 loop-holds c =
     let st = c .before .before .before .before .before .before .before .before .before in
-    let (table, read, first, last) = st .pre .0 in
-    let (platforms, initializations, arch, bits) = st .pre .1 .0 in
+    let (table, read, first, last) = st .pre .0 in let (platforms, initializations, arch, bits) = st .pre .1 .0 in
     let (m, g, z, p, v, t, n) = st .pre .1 .1 in
     reached-none (now (st .args .s)) (st .args .end) (st .args .x64) (st .args .cca) _ _ (st .args .from) (c .new .result)
     (record { table = table; last = last; platforms = platforms; initializations = initializations; arch = arch; bits = bits })
@@ -66,8 +65,7 @@ room : (c : tie.Else2 Inv-loop μ-loop)
 room c =
     let l = at-row (c .before .before .before .before .before .before .before .before .before .before .before .before .before) .3 in
     let inv = c .before .before .before .before .before .before .before .before .before .before .before .before .before .before .before .loop .inv in
-    let small = inv .asked .initializations in
-    let lent = inv .lent in
+    let small = inv .asked .initializations in let lent = inv .lent in
     omega arith
 
 one-at-most : (b : Bool) → boolByte b ≤ 1

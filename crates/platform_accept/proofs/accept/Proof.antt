@@ -22,8 +22,7 @@ room c = read-room _ _ _ _ (c .row-from .ensures) (c .before .before .before .lo
 -- the body has 16 bytes
 long : (c : tie.After-body-from Inv-loop μ-loop) → 16 ≤ length (now (c .body-from .result))
 long c =
-    let l = room (c .before .before .before .before .before) in
-    let n = c .before .if3 .left in
+    let l = room (c .before .before .before .before .before) in let n = c .before .if3 .left in
     rw (c .body-from .ensures) (simp (length-take, length-drop) (omega arith))
 
 -- past the third test it has no fault by itself
@@ -33,8 +32,7 @@ own c = c .before .is-sound .ensures _ (c .before .before .before .before .befor
 
 row-from-requires : tie.Need-row-from-requires Inv-loop μ-loop
 row-from-requires c κs =
-    let p = c .before .before .before .before .pre .0 in
-    let l = c .if1 .taken in
+    let p = c .before .before .before .before .pre .0 in let l = c .if1 .taken in
     (omega arith, c .before .before .loop .inv .accepted .read .room)
 
 returns-3 : tie.Need-returns-3 Inv-loop μ-loop

@@ -7,8 +7,7 @@ use Rattle.regions.proofs.is_region.Tie as tie
 
 returns : tie.Need-returns
 returns c =
-    let a = c .before .before .args in
-    let b = now (a .b) in
+    let a = c .before .before .args in let b = now (a .b) in
     sym (not-relocatable (initializationOf (a .kind) b) (rw (kind-initialization (a .kind) (c .before .before .pre .0) b) (ne-eqb (a .kind) 18 (c .if1 .taken))) .0 (a .given))
 
 u32-at-requires : tie.Need-u32-at-requires

@@ -31,8 +31,7 @@ put-region-requires : tie.Need-put-region-requires Inv-loop μ-loop
 put-region-requires c κs =
     let turn = c .before .before .before .before in
     let st = c .before .before .before .before .before .before .before .before .before .before .before .before in
-    let k = known turn in
-    let w = turn .before .before .loop .inv in
+    let k = known turn in let w = turn .before .before .loop .inv in
     rw (c .before .before .before .cursor-row .ensures .0, c .before .before .cursor-body .ensures) (
       (k .listed .1, k .least, k .codes, walk-few w (st .args .head) (st .pre .1) refl (st .pre .0) (turn .if1 .taken)),
       walk-room w (st .args .head) (st .pre .1) refl (st .pre .0) (turn .if1 .taken) (st .pre .2),

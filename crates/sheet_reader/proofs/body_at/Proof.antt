@@ -9,9 +9,7 @@ there c = found-past _ _ _ (c .before .in-sheet .ensures) (c .if1 .left)
 
 returns : tie.Need-returns
 unfolding bodyAt
-returns c =
-    let i = c .before .before .in-sheet in
-    rw (← i .ensures, not-true (i .result) (c .before .if1 .taken))
+returns c = let i = c .before .before .in-sheet in rw (← i .ensures, not-true (i .result) (c .before .if1 .taken))
 
 returns-2 : tie.Need-returns-2
 unfolding bodyAt
