@@ -24,8 +24,7 @@ table-room s e = start-says limits s .0 e .table
 pub rows-read : (s : List ℕ) (c : Cursor) → ReadTo s c → rowCount (headOf s) ≤ c .row → length s ≤ c .at → isRefusal (rowsRefusal s) ≡ false
 unfolding endFault
 rows-read s c r l whole =
-    let high = r .high in
-    let e : c .row ≡ rowCount (headOf s) = omega arith in
+    let high = r .high in let e : c .row ≡ rowCount (headOf s) = omega arith in
     let at : c .at ≡ offsetOf s (rowCount (headOf s)) = ap (λ (x : Cursor). x .at) (r .at) ∙ ap (offsetOf s) e in
     let none : isFault (endFault s) ≡ false = rw (le-ltb (offsetOf s (rowCount (headOf s))) (length s) (omega arith)) no-fault in
     rw (rows-end s (rw e at (r .passed)), row-refusal 0 (endFault s)) none
@@ -34,9 +33,7 @@ rows-read s c r l whole =
 pub platforms-none : (s : List ℕ) (c : Cursor) (cca : ℕ) → PlatformsAccepted s c cca → headOf s .platforms ≤ c .row → 0 < headOf s .platforms
     → (isRefusal (platformsRefusal (sheetHeaders s)) ≡ false) × HoldsCca cca (sheetHeaders s .platforms)
 platforms-none s c cca a l p =
-    let f = sheetHeaders s in
-    let high = a .high in
-    let n = sheet-counts s .platforms in
+    let f = sheetHeaders s in let high = a .high in let n = sheet-counts s .platforms in
     let e : c .row ≡ f .platforms .count = omega arith in
     (platforms-say f .1 (none-any (f .platforms .count) (λ i. isFault (platformFaults f i)) .0 (rw e at (a .good)), omega arith), rw e at (a .holds))
 
@@ -45,9 +42,7 @@ pub initializations-none : (s : List ℕ) (held : RelocRegions) (numbers : List 
     → headOf s .platforms + headOf s .initializations ≤ c .row → isRefusal (platformsRefusal (sheetHeaders s)) ≡ false
     → ListsAccepted s held c × HoldsRows (headOf s .platforms) numbers held (sheetHeaders s .initializations)
 initializations-none s held numbers c a l p =
-    let f = sheetHeaders s in
-    let high = a .high in
-    let n = sheet-counts s .initializations in
+    let f = sheetHeaders s in let high = a .high in let n = sheet-counts s .initializations in
     let e : c .row - headOf s .platforms ≡ f .initializations .count = omega arith in (
       record {
         read = a .read;
@@ -72,10 +67,7 @@ pub all-none : (s masks gpas sizes vps vtls : List ℕ) (tables : List Bool) (n 
     → RowsAccepted s (regionsIn masks gpas sizes vps vtls tables n) numbers contexts
 unfolding lacksContext
 all-none s masks gpas sizes vps vtls tables n numbers contexts from c lists a l whole lacks rows =
-    let f = sheetHeaders s in
-    let held = regionsIn masks gpas sizes vps vtls tables n in
-    let high = a .read .high in
-    let low = a .low in
+    let f = sheetHeaders s in let held = regionsIn masks gpas sizes vps vtls tables n in let high = a .read .high in let low = a .low in
     let k = sheet-counts s .directives in
     let e : c .row - firstDirective s ≡ f .directives .count = omega arith in
     let contexts-held : HoldsContexts contexts (f .directives) = rw e at (a .holds) in

@@ -22,22 +22,14 @@ fn past_pages(s: &[u8], from: Cursor, end: usize) -> Cursor
 {
     let mut c = from;
     while c.row < end {
-        let k = c.row;
-        let at = c.at;
-        let len = sheet::length_at(s, k);
-        if s.len() - at < len {
+        let r = sheet_reader::row_from(s, c);
+        if r.kind != 32 {
             return c;
         }
-        if sheet::kind_at(s, k) != 32 {
+        if !directive_body::page_data(sheet_reader::body_from(s, c, r)) {
             return c;
         }
-        if !directive_body::page_data(sheet::part(s, at, len)) {
-            return c;
-        }
-        c = Cursor {
-            row: k + 1,
-            at: at + len,
-        };
+        c = sheet_reader::after(c, r);
     }
     c
 }
@@ -61,21 +53,11 @@ fn past_plain(s: &[u8], from: Cursor, end: usize, x64: bool, contexts: &mut [u32
 {
     let mut c = from;
     while c.row < end {
-        let k = c.row;
-        let at = c.at;
-        let kind = sheet::kind_at(s, k);
-        let len = sheet::length_at(s, k);
-        if s.len() - at < len {
+        let r = sheet_reader::row_from(s, c);
+        if !directive_row::plain_row(r.kind, sheet_reader::body_from(s, c, r), x64, contexts) {
             return c;
         }
-        if !directive_row::plain_row(kind, sheet::part(s, at, len), x64, contexts) {
-            return c;
-        }
-        let next = Cursor {
-            row: k + 1,
-            at: at + len,
-        };
-        c = past_like(s, kind, next, end);
+        c = past_like(s, r.kind, sheet_reader::after(c, r), end);
     }
     c
 }
@@ -96,22 +78,20 @@ fn past_parameters(
 {
     let mut c = from;
     while c.row < end {
-        let k = c.row;
-        let at = c.at;
-        let len = sheet::length_at(s, k);
-        if s.len() - at < len {
+        let r = sheet_reader::row_from(s, c);
+        if !directive_check::is_parameter(r.kind) {
             return c;
         }
-        if !directive_check::is_parameter(sheet::kind_at(s, k)) {
+        if !directive_row::parameter_row(
+            sheet_reader::body_from(s, c, r),
+            few,
+            links,
+            areas,
+            states,
+        ) {
             return c;
         }
-        if !directive_row::parameter_row(sheet::part(s, at, len), few, links, areas, states) {
-            return c;
-        }
-        c = Cursor {
-            row: k + 1,
-            at: at + len,
-        };
+        c = sheet_reader::after(c, r);
     }
     c
 }
@@ -159,16 +139,10 @@ fn past_area_rows<'a>(
 {
     let mut c = from;
     while c.row < end {
-        let k = c.row;
-        let at = c.at;
-        let kind = sheet::kind_at(s, k);
-        let len = sheet::length_at(s, k);
-        if s.len() - at < len {
-            return c;
-        }
+        let r = sheet_reader::row_from(s, c);
         if !directive_row::area_row(
-            kind,
-            sheet::part(s, at, len),
+            r.kind,
+            sheet_reader::body_from(s, c, r),
             masks,
             gpas,
             sizes,
@@ -181,11 +155,16 @@ fn past_area_rows<'a>(
         ) {
             return c;
         }
-        let next = Cursor {
-            row: k + 1,
-            at: at + len,
-        };
-        c = past_uses(s, kind, next, end, few, links, areas, states);
+        c = past_uses(
+            s,
+            r.kind,
+            sheet_reader::after(c, r),
+            end,
+            few,
+            links,
+            areas,
+            states,
+        );
     }
     c
 }

@@ -74,18 +74,10 @@ module _ {s : List ℕ} {held : RelocRegions} {k n : ℕ} {a : Arch} {c : Cursor
   directive-known l = at-directive s (r .readable) c i (rw (r .first-row) at (r .reached .at)) (rw (← r .rows) l)
 
   pub directive-small : (k ≤ 80) × (n ≤ 1024)
-  directive-small =
-      let first = r .first-row in
-      let rows = r .rows in
-      let bounds = readable-bounds s (r .readable) in
-      omega arith
+  directive-small = let first = r .first-row in let rows = r .rows in let bounds = readable-bounds s (r .readable) in omega arith
 
   pub directive-room : held .count ≤ 64
-  directive-room =
-      let m = r .regions .count in
-      let bounds = readable-bounds s (r .readable) in
-      let counts = sheet-counts s in
-      omega arith
+  directive-room = let m = r .regions .count in let bounds = readable-bounds s (r .readable) in let counts = sheet-counts s in omega arith
 
   pub reached-header : directiveOf (rowKind s (c .row)) (bodyOf s (c .row)) ≡ sheetHeaders s .directives .row i
   reached-header = directive-header s (c .row) i (rw (r .reached .at, r .first-row))

@@ -44,13 +44,8 @@ pub fn accept<'a>(
     let mut n = 0;
     let mut reach = Reach::new();
     while c.row < end {
-        let k = c.row;
-        let at = c.at;
-        let len = sheet::length_at(s, k);
-        if s.len() - at < len {
-            return InitializationsReached { at: c, count: n };
-        }
-        let f = initialization_row::row_of(sheet::kind_at(s, k), sheet::part(s, at, len), x64, cca);
+        let row = sheet_reader::row_from(s, c);
+        let f = initialization_row::row_of(row.kind, sheet_reader::body_from(s, c, row), x64, cca);
         let r = f.region;
         let found = f.found;
         let shares = clashes::any_tables_share(r, masks, tables, n);
@@ -64,13 +59,10 @@ pub fn accept<'a>(
         vps[n] = r.vp_index;
         vtls[n] = r.vtl;
         tables[n] = r.page_table;
-        rows[n] = (k + 1) as u16;
+        rows[n] = (c.row + 1) as u16;
         n += found as usize;
         reach = reach.with(found, r);
-        c = Cursor {
-            row: k + 1,
-            at: at + len,
-        };
+        c = sheet_reader::after(c, row);
     }
     InitializationsReached { at: c, count: n }
 }

@@ -34,17 +34,11 @@ module _ {s : List ℕ} {p : Platforms} {first n : ℕ} {a : Arch} {c : Cursor} 
   initialization-known l = at-initialization s (r .readable) c i (rw (r .first-row) at (r .reached .at)) (rw (← r .rows) l)
 
   pub initialization-small : i < n → first + i < 80
-  initialization-small l =
-      let b = readable-bounds s (r .readable) in
-      let e = r .rows in
-      let d = r .first-row in
-      omega arith
+  initialization-small l = let b = readable-bounds s (r .readable) in let e = r .rows in let d = r .first-row in omega arith
 
   pub initialization-room : i < n → (q .count < 64) × (p .count ≤ 16)
   initialization-room l =
-      let b = readable-bounds s (r .readable) in
-      let e = r .rows in
-      let h = r .holds .count in
+      let b = readable-bounds s (r .readable) in let e = r .rows in let h = r .holds .count in
       (omega arith, holds-count p (sheetHeaders s .platforms) (r .platforms))
 
   -- the check's answer, at the row that the cursor stands at

@@ -42,14 +42,9 @@ module _ {s : List ℕ} {first n : ℕ} {was : RelocRegions} {wasNumbers : List 
   row-known l = at-initialization s (r .readable) c i (rw (r .first-row) at (r .at)) (rw (← r .rows) l)
 
   -- the arrays have room for the row's region, and the row's number is small
-  pub row-room : i < n
-      → (first + i < 80) × (held .count < 64) × Room held × (held .count < length numbers)
+  pub row-room : i < n → (first + i < 80) × (held .count < 64) × Room held × (held .count < length numbers)
   row-room l =
-      let b = readable-bounds s (r .readable) in
-      let e = r .rows in
-      let d = r .first-row in
-      let h = r .holds .count in
-      let lent = r .lent in
+      let b = readable-bounds s (r .readable) in let e = r .rows in let d = r .first-row in let h = r .holds .count in let lent = r .lent in
       omega arith
 
   -- the row passed, with its region
@@ -57,8 +52,7 @@ module _ {s : List ℕ} {first n : ℕ} {was : RelocRegions} {wasNumbers : List 
       → regionOf h ≡ cond found (some new) none → d ≡ cursorAt s (c .row + 1)
       → Reached s first n was wasNumbers (stored held found new) (set numbers (held .count) (first + i + 1)) d (i + 1)
   reached-next d h found new l e region next =
-      let xs = sheetHeaders s .initializations in
-      let (small, count, room, number) = row-room l in
+      let xs = sheetHeaders s .initializations in let (small, count, room, number) = row-room l in
       let of : regionOf (xs .row i) ≡ cond found (some new) none = rw (← initialization-header s (c .row) i (rw (r .at, r .first-row)), ← e) region in
       record {
         readable = r .readable;
@@ -74,7 +68,5 @@ module _ {s : List ℕ} {first n : ℕ} {was : RelocRegions} {wasNumbers : List 
   -- every row passed
   pub reached-end : n ≤ i → HoldsRegions held (sheetHeaders s .initializations) × HoldsRows (headOf s .platforms) numbers held (sheetHeaders s .initializations)
   reached-end l =
-      let b = r .below in
-      let e : i ≡ n = omega arith in
-      let z = e ∙ r .rows ∙ sym (sheet-counts s .initializations) in
+      let b = r .below in let e : i ≡ n = omega arith in let z = e ∙ r .rows ∙ sym (sheet-counts s .initializations) in
       (rw z at (r .holds), rw (z, r .first-row) at (r .row-of))

@@ -1,13 +1,14 @@
 -- Laws of the rows that are passed: a body that passes has no fault by itself, and what is kept of the rows before tells of the rest.
 -- Assumes nothing.
 use mathlib.Core.Bool.{Bool·beq}
-use Rattle.rows.{proofs.Kit.{_≡_, refl, sym, ap, _∙_, Bool, true, false, cond, not, _&&_, _||_, List, _⊎_, inl, inr, Option, none, some, ℕ, _+_, _^_, _≤_, _<_, zero-add, add-one, arith, bitOr, eqb, leb, ltb, length, take, drop, length-take, length-drop, eqb-true, eqb-false, leb-true, ltb-true, lt-ltb, not-false}, specs.Below.{anyBelow, lastBelow}, specs.Rows.{Rows, any, before, rowAt}, proofs.Bools.{not-both, is-false, or-left, or-right, or-cases, or-false-parts, and-parts}, proofs.BelowLaws.{top, none-any, any-more, last-more}}
+use Rattle.rows.{proofs.Kit.{_≡_, refl, sym, ap, _∙_, Bool, true, false, cond, not, _&&_, _||_, List, _⊎_, inl, inr, Option, none, some, ℕ, _+_, _^_, _≤_, _<_, zero-add, add-one, arith, bitOr, eqb, leb, ltb, length, take, drop, eqb-true, eqb-false, leb-true, ltb-true, lt-ltb, not-false}, specs.Below.{anyBelow, lastBelow}, specs.Rows.{Rows, any, before, rowAt}, proofs.Bools.{not-both, is-false, or-left, or-right, or-cases, or-false-parts, and-parts}, proofs.BelowLaws.{top, none-any, any-more, last-more}}
 use Rattle.igvm_defs.{specs.declared.Arch.Arch, specs.declared.Arch.the-variants.{X64, AArch64}, specs.Kinds.{kindOf, spans, lengthOk}, specs.Refusals.isFault, specs.Revision.isX64, specs.Platforms.{platformType, platformTypes, isPlatformType, platformTypeOf}, proofs.Runs.{_⨾_, each}, proofs.RefusalLaws.no-fault}
-use Rattle.sheet.{specs.declared.Cursor.Cursor, specs.Head.headOf, specs.Table.{rowKind, rowLength, offsetOf, bodyOf}, specs.Read.codesOk, specs.Walk.ReadTo, proofs.Readable.{RowOk, platform-list}, proofs.ReadLaws.read-more}
+use Rattle.sheet.{specs.declared.Cursor.Cursor, specs.Head.headOf, specs.Table.{rowKind, rowLength, offsetOf, bodyOf}, specs.Read.codesOk, specs.Walk.ReadTo, proofs.Readable.{RowOk, platform-list}}
 use Rattle.platform_header.{specs.declared.IgvmPlatformHeader.IgvmPlatformHeader, specs.Platforms.{supportedPlatformOf, platformOf}}
 use Rattle.masks.{specs.Masks.{shares, isOneBit, hasBit}, proofs.MaskLaws.{shares-or, one-bit-alone, bit-set}}
 use Rattle.rules.{specs.Options.passes, specs.Platforms.{validatePlatform, standsWith, sameType, isCca, lastIsCca, ownPlatformFault}, specs.Verdict.platformFaults, proofs.FaultLaws.{refuse-none, or-none}, proofs.Acceptance.platform-says}
-use Rattle.sheet_headers.specs.Headers.{sheetHeaders}
+use Rattle.sheet_reader.{specs.declared.SheetRow.SheetRow, specs.Reading.{readAt, cursorAfter}, proofs.ReaderLaws.{kind-found, room-row, body-found, read-after}}
+use Rattle.sheet_headers.{specs.Headers.sheetHeaders, proofs.ListLaws.platform-header}
 use Rattle.platform_accept.specs.Accepted.{HoldsCca, PlatformsAccepted}
 
 -- ---- a body by itself
@@ -46,11 +47,9 @@ unfolding ownPlatformFault validatePlatform isPlatformType platformTypes
 sound-says a x64 h e t =
     let (t5, st) = and-parts _ (stands (h .«platform_type») x64) t in
     let (t4, bound) = and-parts _ (ltb 1 (h .«platform_type») || eqb (h .«shared_gpa_boundary») 0) t5 in
-    let (t3, version) = and-parts _ (eqb (h .«platform_version») 1) t4 in
-    let (t2, low) = and-parts _ (leb (h .«platform_type») 6) t3 in
+    let (t3, version) = and-parts _ (eqb (h .«platform_version») 1) t4 in let (t2, low) = and-parts _ (leb (h .«platform_type») 6) t3 in
     let (one, vtl) = and-parts (isOneBit (h .«compatibility_mask»)) (eqb (h .«highest_vtl») 0 || eqb (h .«highest_vtl») 2) t2 in
-    let six = leb-true (h .«platform_type») 6 low in
-    let l : h .«platform_type» < 7 = omega arith in
+    let six = leb-true (h .«platform_type») 6 low in let l : h .«platform_type» < 7 = omega arith in
     let v : eqb (h .«platform_version») (platformTypeOf (h .«platform_type») .version) ≡ true = rw (type-row (h .«platform_type») l) version in
     rw (
       one,
@@ -146,23 +145,15 @@ cca-more cca xs i one holds free k l = go (eqb (xs .row i .«platform_type») 6)
 
 -- ---- one row more
 
-platform-header : (s : List ℕ) (k : ℕ) → sheetHeaders s .platforms .row k ≡ supportedPlatformOf (bodyOf s k)
-unfolding sheetHeaders platformOf
-platform-header s k = rw zero-add
+header-is : (s : List ℕ) (k : ℕ) → supportedPlatformOf (bodyOf s k) ≡ sheetHeaders s .platforms .row k
+unfolding platformOf
+header-is s k = platform-header s k k (sym (zero-add k))
 
 -- a platform of 16 bytes in the sheet can be read
-row-reads : (s : List ℕ) (k : ℕ) → k < headOf s .platforms → rowKind s k ≡ 1 → rowLength s k ≡ 16 → offsetOf s k + 16 ≤ length s → RowOk s k
+row-reads : (s : List ℕ) (k : ℕ) → k < headOf s .platforms → rowKind s k ≡ 1 → rowLength s k ≡ 16 → offsetOf s k + rowLength s k ≤ length s → RowOk s k
 unfolding kindOf spans lengthOk codesOk
 row-reads s k l kind len room =
-    record { list = rw (kind, platform-list (headOf s) k l); long = rw (kind, len); room = rw len room; codes = rw kind }
-
--- the part of 16 bytes at the cursor is the row's body
-pub body-part : (s : List ℕ) (c : Cursor) → ReadTo s c → rowLength s (c .row) ≡ 16 → take 16 (drop (c .at) s) ≡ bodyOf s (c .row)
-unfolding bodyOf
-body-part s c r len = rw (len, ap (λ (x : Cursor). x .at) (r .at))
-
-pub part-long : (s : List ℕ) (at : ℕ) → at + 16 ≤ length s → 16 ≤ length (take 16 (drop at s))
-part-long s at l = simp (length-take, length-drop) (omega arith)
+    record { list = rw (kind, platform-list (headOf s) k l); long = rw (kind, len); room = room; codes = rw kind }
 
 -- at the head of the loop
 pub record Reached (s : List ℕ) (c : Cursor) (seen cca : ℕ) : Type 0 where
@@ -178,29 +169,27 @@ reached-none s c r e =
     }
 
 -- the row at the cursor passes
-pub reached-more : (s : List ℕ) (c : Cursor) (seen cca : ℕ) (h : IgvmPlatformHeader) → Reached s c seen cca → c .row < headOf s .platforms
-    → (rowKind s (c .row) ≡ 1) × (rowLength s (c .row) ≡ 16) × (c .at + 16 ≤ length s)
-    → h ≡ supportedPlatformOf (bodyOf s (c .row)) → isFault (ownPlatformFault (sheetHeaders s .arch) h) ≡ false
+pub reached-more : (s : List ℕ) (c : Cursor) (seen cca : ℕ) (b : List ℕ) (h : IgvmPlatformHeader) (r : SheetRow) → Reached s c seen cca → c .row < headOf s .platforms
+    → r ≡ readAt s (c .row) (c .at) → r .kind ≡ 1 → r .length ≡ 16 → b ≡ take (r .length) (drop (c .at) s)
+    → h ≡ supportedPlatformOf b → isFault (ownPlatformFault (sheetHeaders s .arch) h) ≡ false
     → (shares seen (2 ^ (h .«platform_type»)) || (not (eqb (h .«platform_type») 6) && shares cca (h .«compatibility_mask»))) ≡ false
-    → Reached s (record { row = c .row + 1; at = c .at + 16 }) (bitOr seen (2 ^ (h .«platform_type»)))
-    (cond (eqb (h .«platform_type») 6) (bitOr cca (h .«compatibility_mask»)) cca)
+    → Reached s (cursorAfter c r) (bitOr seen (2 ^ (h .«platform_type»))) (cond (eqb (h .«platform_type») 6) (bitOr cca (h .«compatibility_mask»)) cca)
 unfolding hasBit
-reached-more s c seen cca h r l (kind, len, room) e own free =
-    let k = c .row in
-    let xs = sheetHeaders s .platforms in
-    let o : c .at ≡ offsetOf s k = ap (λ (x : Cursor). x .at) (r .accepted .read .at) in
-    let row : h ≡ xs .row k = e ∙ sym (platform-header s k) in
+reached-more s c seen cca b h r was l e kind len part told own free =
+    let k = c .row in let xs = sheetHeaders s .platforms in let read = was .accepted .read in
+    let f = kind-found s k (c .at) r e (omega arith) in
+    let row : h ≡ xs .row k = told ∙ ap supportedPlatformOf (part ∙ body-found s c read r f) ∙ header-is s k in
     let (new, cca-free) = or-false-parts (shares seen (2 ^ (h .«platform_type»))) _ free in
-    let reads = row-reads s k l kind len (rw (← o) room) in
+    let reads = row-reads s k l (rw (← f .kind) kind) (rw (← f .size) len) (room-row s c read r f) in
     let (one, _) = own-says (sheetHeaders s .arch) h own in
     let good : isFault (platformFaults (sheetHeaders s) k) ≡ false =
-    rw (← row) (platform-says (sheetHeaders s .arch) (before k xs) h .1 (own, type-new seen (before k xs) h (r .types) new)) in
+    rw (← row) (platform-says (sheetHeaders s .arch) (before k xs) h .1 (own, type-new seen (before k xs) h (was .types) new)) in
     record {
       accepted = record {
-        read = rw len at (read-more s c (r .accepted .read) (omega arith) reads);
+        read = read-after s c read r f (omega arith) reads;
         high = omega arith;
-        good = rw (any-more, r .accepted .good, good);
-        holds = rw row (cca-more cca xs k (rw row at one) (r .accepted .holds) (rw row at cca-free));
+        good = rw (any-more, was .accepted .good, good);
+        holds = rw row (cca-more cca xs k (rw row at one) (was .accepted .holds) (rw row at cca-free));
       };
-      types = rw row (types-more seen xs k (r .types));
+      types = rw row (types-more seen xs k (was .types));
     }

@@ -2,7 +2,7 @@
 // left to the passes over the headers, which name its fault or find none.
 ghost use mathlib.Core.Path.{_≡_};
 ghost use mathlib.Core.Bool.{true, false, cond};
-ghost use Prim.Native.Nat.{_+_, _*_, _^_, _≤_, _<_};
+ghost use Prim.Native.Nat.{_^_, _≤_, _<_};
 ghost use lib.Bits.{bitOr};
 ghost use lib.Dec.{eqb};
 ghost use lib.ListN.{length};
@@ -10,7 +10,6 @@ ghost use Rattle.igvm_defs.specs.declared.Arch.{Arch};
 ghost use Rattle.igvm_defs.specs.Refusals.{isFault};
 ghost use Rattle.igvm_defs.specs.Revision.{isX64};
 ghost use Rattle.sheet.specs.Head.{headOf, bodiesAt};
-ghost use Rattle.sheet.specs.Table.{rowKind, rowLength};
 ghost use Rattle.sheet.specs.Walk.{ReadTo};
 ghost use Rattle.platform_header.specs.Platforms.{supportedPlatformOf};
 ghost use Rattle.rules.specs.Platforms.{ownPlatformFault};
@@ -22,14 +21,6 @@ use sheet::Cursor;
 pub struct PlatformsReached {
     pub at: Cursor,
     pub cca: u32,
-}
-
-// True only where row k, whose body starts at `at`, is of the platforms' kind and length and its body lies in the sheet.
-fn is_platform(s: &[u8], k: usize, at: usize) -> bool
-    requires { ⌜ (24 + 8 * k ≤ length (now s)) × (at ≤ length (now s)) ⌝ }
-    ensures { λ r. ⌜ (r ≡ true → (rowKind (now (s .entry)) k ≡ 1) × (rowLength (now (s .entry)) k ≡ 16) × (at + 16 ≤ length (now (s .entry)))) ⌝ }
-{
-    (sheet::kind_at(s, k) == 1) & (sheet::length_at(s, k) == 16) & (16 <= s.len() - at)
 }
 
 // True only where the platform that a body says has no fault by itself: 8 to 13. The numbers are those of the table of platform types: version 1,
@@ -77,12 +68,14 @@ pub fn accept(s: &[u8], from: Cursor, end: usize, x64: bool) -> PlatformsReached
     let mut seen: u32 = 0;
     let mut cca: u32 = 0;
     while c.row < end {
-        let k = c.row;
-        let at = c.at;
-        if !is_platform(s, k, at) {
+        let r = sheet_reader::row_from(s, c);
+        if r.kind != 1 {
             return PlatformsReached { at: c, cca };
         }
-        let b = sheet::part(s, at, 16);
+        if r.length != 16 {
+            return PlatformsReached { at: c, cca };
+        }
+        let b = sheet_reader::body_from(s, c, r);
         if !is_sound(b, x64) {
             return PlatformsReached { at: c, cca };
         }
@@ -94,10 +87,7 @@ pub fn accept(s: &[u8], from: Cursor, end: usize, x64: bool) -> PlatformsReached
         }
         seen = seen | bit;
         cca = cca_with(cca, mask, kind);
-        c = Cursor {
-            row: k + 1,
-            at: at + 16,
-        };
+        c = sheet_reader::after(c, r);
     }
     PlatformsReached { at: c, cca }
 }

@@ -30,11 +30,7 @@ module _ {s : List ℕ} {n : ℕ} {a : Arch} {c : Cursor} {p : Platforms} {i : �
   platform-known l = at-platform s (r .readable) c i (r .reached .at) (rw (← r .rows) l)
 
   pub platform-room : i < n → p .count < 16
-  platform-room l =
-      let b = readable-bounds s (r .readable) in
-      let e = r .rows in
-      let h = r .holds .count in
-      omega arith
+  platform-room l = let b = readable-bounds s (r .readable) in let e = r .rows in let h = r .holds .count in omega arith
 
   -- the step's answer, at the row that the cursor stands at
   pub platform-stepped : (h : IgvmPlatformHeader) (f : Fault) (q : Platforms) → h ≡ platformOf (rowKind s (c .row)) (bodyOf s (c .row))

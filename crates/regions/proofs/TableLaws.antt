@@ -42,8 +42,7 @@ module _ (s : List ℕ) (given end i t row : ℕ) (old : TableRow s given end i 
       go : (is free : Bool) → isPageTable given (sheetInitializations s .row i) ≡ is → eqb t end ≡ free
           → TableRow s given end (i + 1) (cond (is && free) row t)
       go true true p f =
-          let m = table-so-far true true p f in
-          let other = ne-eqb row end (omega arith) in
+          let m = table-so-far true true p f in let other = ne-eqb row end (omega arith) in
           record {
             low = l;
             high = omega arith;

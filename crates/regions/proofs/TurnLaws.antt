@@ -20,9 +20,7 @@ pub record Turn (s : List ℕ) (c : Cursor) (i : ℕ) : Type 0 where
 module _ (s : List ℕ) (head : SheetHead) (e : head ≡ headOf s) where
   pub turn-at : Readable limits s → (c : Cursor) (i : ℕ) → c ≡ cursorAt s (headOf s .platforms + i) → i < head .initializations → Turn s c i
   turn-at ok c i p l =
-      let h : i < headOf s .initializations = rw (← e) l in
-      let b = readable-bounds s ok in
-      let listed = at-initialization s ok c i p h in
+      let h : i < headOf s .initializations = rw (← e) l in let b = readable-bounds s ok in let listed = at-initialization s ok c i p h in
       record {
         listed = listed;
         least = body-least s c (listed .0);

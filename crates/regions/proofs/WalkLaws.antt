@@ -43,8 +43,7 @@ module _ {s : List ℕ} {given end : ℕ} {lent b : List ℕ} {c : Cursor} {t co
     -- at a row
     pub walk-at : c .row < end → Turn s c (w .i)
     walk-at h =
-        let q : c .row ≡ headOf s .platforms + w .i = rw (w .at) in
-        let l : IsEnd (headOf s) end = rw e at last in
+        let q : c .row ≡ headOf s .platforms + w .i = rw (w .at) in let l : IsEnd (headOf s) end = rw e at last in
         let n : w .i < headOf s .initializations = omega arith in
         turn-at s head e ok c (w .i) (w .at) (rw e n)
 
@@ -54,16 +53,11 @@ module _ {s : List ℕ} {given end : ℕ} {lent b : List ℕ} {c : Cursor} {t co
     walk-room h room m =
         let a = walk-at h in
         let r = number-room (sheetInitializations s) given (w .i) (a .within) (rw (a .header) at m) in
-        let q = w .counted in
-        let n = lent-length in
+        let q = w .counted in let n = lent-length in
         omega arith
 
     pub walk-few : c .row < end → count ≤ 64
-    walk-few h =
-        let a = walk-at h .few in
-        let q = w .counted in
-        let n = regions-few (sheetInitializations s) given (w .i) in
-        omega arith
+    walk-few h = let a = walk-at h .few in let q = w .counted in let n = regions-few (sheetInitializations s) given (w .i) in omega arith
 
     -- a turn
     pub walk-next : (after : List ℕ) (next : Cursor) (table many : ℕ) → c .row < end → next ≡ cursorAt s (c .row + 1)
@@ -73,9 +67,7 @@ module _ {s : List ℕ} {given end : ℕ} {lent b : List ℕ} {c : Cursor} {t co
         (rowPut count (regionWords (relocatableOf (initializationOf (rowKind s (c .row)) (bodyOf s (c .row))))) b) b
         → Walked s given end lent after next table many
     walk-next after next table many h en et em ea =
-        let xs = sheetInitializations s in
-        let a = walk-at h in
-        let q : c .row ≡ headOf s .platforms + w .i = rw (w .at) in
+        let xs = sheetInitializations s in let a = walk-at h in let q : c .row ≡ headOf s .platforms + w .i = rw (w .at) in
         record {
           i = w .i + 1;
           at = en ∙ a .next;
@@ -88,7 +80,6 @@ module _ {s : List ℕ} {given end : ℕ} {lent b : List ℕ} {c : Cursor} {t co
     -- at the end
     pub walk-all : end ≤ c .row → before (w .i) (sheetInitializations s) ≡ sheetInitializations s
     walk-all h =
-        let q : c .row ≡ headOf s .platforms + w .i = rw (w .at) in
-        let n = w .within in
+        let q : c .row ≡ headOf s .platforms + w .i = rw (w .at) in let n = w .within in
         let f : head .platforms ≡ headOf s .platforms = rw e in
         all-rows s head e (w .i) (omega arith)

@@ -22,8 +22,7 @@ pub read-more : (s : List ℕ) (c : Cursor) → ReadTo s c → c .row < rowCount
     → ReadTo s (record { row = c .row + 1; at = c .at + rowLength s (c .row) })
 read-more s c r l ok =
     let e : c .at ≡ offsetOf s (c .row) = ap (λ (x : Cursor). x .at) (r .at) in
-    let n = offset-next s (c .row) in
-    let o = ok .room in
+    let n = offset-next s (c .row) in let o = ok .room in
     let next : c .at + rowLength s (c .row) ≡ offsetOf s (c .row + 1) = omega arith in
     record {
       at = ap (λ (a : ℕ). record { row = c .row + 1; at = a }) next;

@@ -57,9 +57,7 @@ within-says l h n = (there, λ (a, b, c, d). rw (le-leb _ _ a, le-leb _ _ b, le-
 
     there : (p && i && d && b) ≡ true → (h .platforms ≤ l .platforms) × (h .initializations ≤ l .initializations) × (h .directives ≤ l .directives) × (n ≤ l .bytes)
     there e =
-        let (x, w) = and-parts (p && i && d) b e in
-        let (y, v) = and-parts (p && i) d x in
-        let (z, u) = and-parts p i y in
+        let (x, w) = and-parts (p && i && d) b e in let (y, v) = and-parts (p && i) d x in let (z, u) = and-parts p i y in
         (leb-true _ _ z, leb-true _ _ u, leb-true _ _ v, leb-true _ _ w)
 
 pub start-says : (l : Limits) (s : List ℕ) → (isFault (startFault l s) ≡ false) ↔ Started l s
@@ -140,10 +138,6 @@ pub body-length : (s : List ℕ) (k : ℕ) → offsetOf s k + rowLength s k ≤ 
 unfolding bodyOf
 body-length s k r = simp (length-take, length-drop) (omega arith)
 
-pub body-byte : (s : List ℕ) (k j : ℕ) → j < rowLength s k → byteAt (bodyOf s k) j ≡ byteAt s (offsetOf s k + j)
-unfolding bodyOf
-body-byte s k j h = rw (getD-take, getD-drop)
-
 -- the body that a cursor stands at is as long as its kind asks
 pub body-least : (s : List ℕ) (c : Cursor) → AtRow s c → kindOf (rowKind s (c .row)) .least ≤ length (bodyOf s (c .row))
 body-least s c a = rw (body-length s (c .row) (rw (← a .offset) (a .room))) (a .least)
@@ -174,8 +168,7 @@ readable-says l s = (there, back)
         let (d, z) = or-false-parts (ltb (offsetOf s n) (length s)) _ (rw (end-fault s) at c) in
         let start = start-says l s .0 a in
         let row : (k : ℕ) → k < n → RowOk s k = λ k h. row-says s k .0 (none-any n (λ k. isFault (rowFault s k)) .0 b k h) in
-        let low = ltb-false (offsetOf s n) (length s) d in
-        let high = offset-within s (start .table) row n (omega arith) in
+        let low = ltb-false (offsetOf s n) (length s) d in let high = offset-within s (start .table) row n (omega arith) in
         record { start = start; row = row; whole = omega arith }
 
     back : Reads l s → Readable l s
@@ -197,27 +190,10 @@ pub directive-list : (h : SheetHead) (k : ℕ) → h .platforms + h .initializat
 unfolding listAt
 directive-list h k a = rw (le-ltb k (h .platforms) (omega arith), le-ltb _ _ a)
 
--- ---- codes in range, by kind
-module _ (b : List ℕ) where
-  pub codes-18 : codesOk 18 b ≡ true → (byteAt b 47 ≤ 2) × (byteAt b 44 ≤ 7)
-  unfolding codesOk
-  codes-18 e = let (v, f) = and-parts (leb (byteAt b 47) 2) (leb (byteAt b 44) 7) e in (leb-true _ _ v, leb-true _ _ f)
-
-  pub codes-19 : codesOk 19 b ≡ true → byteAt b 30 ≤ 2
-  unfolding codesOk
-  codes-19 e = leb-true _ _ e
-
-  pub codes-44 : codesOk 44 b ≡ true → byteAt b 16 ≤ 1
-  unfolding codesOk
-  codes-44 e = leb-true _ _ e
-
-  pub codes-47 : codesOk 47 b ≡ true → byteAt b 4 ≤ 2
-  unfolding codesOk
-  codes-47 e = leb-true _ _ e
-
-  pub codes-48 : codesOk 48 b ≡ true → byteAt b 4 ≤ 2
-  unfolding codesOk
-  codes-48 e = leb-true _ _ e
+-- ---- codes in range, of kind 18
+pub codes-18 : (b : List ℕ) → codesOk 18 b ≡ true → (byteAt b 47 ≤ 2) × (byteAt b 44 ≤ 7)
+unfolding codesOk
+codes-18 b e = let (v, f) = and-parts (leb (byteAt b 47) 2) (leb (byteAt b 44) 7) e in (leb-true _ _ v, leb-true _ _ f)
 
 -- ---- what follows for a readable sheet
 module _ (l : Limits) (s : List ℕ) (ok : Readable l s) where
@@ -230,19 +206,12 @@ module _ (l : Limits) (s : List ℕ) (ok : Readable l s) where
   pub readable-end : offsetOf s (rowCount (headOf s)) ≡ length s
   readable-end = readable-reads .whole
 
-  pub readable-offset : (k : ℕ) → k ≤ rowCount (headOf s) → offsetOf s k ≤ length s
-  readable-offset = offset-within s (readable-reads .start .table) readable-row
-
   pub readable-length : (k : ℕ) → k < rowCount (headOf s) → length (bodyOf s k) ≡ rowLength s k
   readable-length k h = body-length s k (readable-row k h .room)
 
-  pub readable-least : (k : ℕ) → k < rowCount (headOf s) → kindOf (rowKind s k) .least ≤ length (bodyOf s k)
-  readable-least k h = rw (readable-length k h) (length-least (kindOf (rowKind s k)) (rowLength s k) (readable-row k h .long))
-
   pub at-row : (k : ℕ) → k < rowCount (headOf s) → AtRow s (cursorAt s k)
   at-row k h =
-      let st = readable-reads .start in
-      let r = readable-row k h in
+      let st = readable-reads .start in let r = readable-row k h in
       record {
         offset = refl;
         table = omega arith;
@@ -261,25 +230,6 @@ module _ (l : Limits) (s : List ℕ) (ok : Readable l s) where
   pub directive-row : (k : ℕ) → headOf s .platforms + headOf s .initializations ≤ k → k < rowCount (headOf s)
       → kindOf (rowKind s k) .list ≡ directiveList
   directive-row k g h = rw (readable-row k h .list) (directive-list (headOf s) k g)
-
-  -- codes in range: VTL and flags of 18, VTL of 19, protectable of 44, VTL of 47 and 48
-  pub region-vtl : (k : ℕ) → k < rowCount (headOf s) → rowKind s k ≡ 18 → byteAt (bodyOf s k) 47 ≤ 2
-  region-vtl k h e = codes-18 (bodyOf s k) (rw e at (readable-row k h .codes)) .0
-
-  pub region-flags : (k : ℕ) → k < rowCount (headOf s) → rowKind s k ≡ 18 → byteAt (bodyOf s k) 44 ≤ 7
-  region-flags k h e = codes-18 (bodyOf s k) (rw e at (readable-row k h .codes)) .1
-
-  pub page-table-vtl : (k : ℕ) → k < rowCount (headOf s) → rowKind s k ≡ 19 → byteAt (bodyOf s k) 30 ≤ 2
-  page-table-vtl k h e = codes-19 (bodyOf s k) (rw e at (readable-row k h .codes))
-
-  pub memory-protectable : (k : ℕ) → k < rowCount (headOf s) → rowKind s k ≡ 44 → byteAt (bodyOf s k) 16 ≤ 1
-  memory-protectable k h e = codes-44 (bodyOf s k) (rw e at (readable-row k h .codes))
-
-  pub x64-vtl : (k : ℕ) → k < rowCount (headOf s) → rowKind s k ≡ 47 → byteAt (bodyOf s k) 4 ≤ 2
-  x64-vtl k h e = codes-47 (bodyOf s k) (rw e at (readable-row k h .codes))
-
-  pub aarch64-vtl : (k : ℕ) → k < rowCount (headOf s) → rowKind s k ≡ 48 → byteAt (bodyOf s k) 4 ≤ 2
-  aarch64-vtl k h e = codes-48 (bodyOf s k) (rw e at (readable-row k h .codes))
 
 pub readable-bounds : (s : List ℕ) → Readable limits s → Bounds s
 readable-bounds s ok = started-bounds s (readable-reads limits s ok .start)

@@ -1,6 +1,6 @@
 -- Row i of a list of a readable sheet, and a pass over the n rows of a list, which follow `first` others.
 -- Assumes nothing.
-use Rattle.rows.{proofs.Kit.{_≡_, refl, sym, ap, _∙_, true, false, false≢true, List, ℕ, _+_, _≤_, _<_, add-zero, add-assoc, arith}, specs.Below.anyBelow, proofs.BelowLaws.any-more}
+use Rattle.rows.{proofs.Kit.{_≡_, refl, sym, _∙_, true, false, false≢true, List, ℕ, _+_, _≤_, _<_, add-zero, add-assoc, arith}, specs.Below.anyBelow, proofs.BelowLaws.any-more}
 use Rattle.igvm_defs.{specs.declared.Fault.Fault, specs.Kinds.{kindOf, platformList, initializationList, directiveList}, specs.Refusals.{noRefusal, isFault, isRefusal, inRow, firstFault}, proofs.RefusalLaws.{row-refusal, fault-stop, fault-end}}
 use Rattle.sheet.{specs.declared.Cursor.Cursor, specs.Head.{limits, headOf, firstDirective}, specs.Table.{rowKind, bodyOf}, specs.Read.Readable, specs.Walk.{cursorAt, AtRow}, proofs.Readable.{at-row, platform-row, initialization-row, directive-row}}
 use Rattle.platform_header.specs.Platforms.{platformOf}
@@ -55,8 +55,7 @@ module _ (s : List ℕ) (first n : ℕ) (f : ℕ → Fault) where
 
   pub rows-next : (c next : Cursor) (i : ℕ) → RowsReached s first n f c i → i < n → isFault (f i) ≡ false → next ≡ cursorAt s (c .row + 1)
       → RowsReached s first n f next (i + 1)
-  rows-next c next i r l e q =
-      record { below = omega arith; at = rw (q, r .at, add-assoc); passed = rw (any-more, r .passed, e) }
+  rows-next c next i r l e q = record { below = omega arith; at = rw (q, r .at, add-assoc); passed = rw (any-more, r .passed, e) }
 
   pub rows-stop : (c : Cursor) (i : ℕ) → RowsReached s first n f c i → i < n → isFault (f i) ≡ true → firstFault first n f ≡ inRow (first + i + 1) (f i)
   rows-stop c i r l t = fault-stop first n f i l (r .passed) t

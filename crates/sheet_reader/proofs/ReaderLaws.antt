@@ -1,8 +1,9 @@
 -- What the sheet reader reads of a row that is there, and at a cursor that stands at a row: that row's kind and body, and the cursor at the row after it.
 -- Assumes nothing.
-use Rattle.rows.{proofs.Kit.{_≡_, refl, sym, ap, _∙_, Bool, true, false, not, not-false, List, ℕ, _+_, _*_, _<_, _≤_, arith, leb, length, take, drop, leb-true, le-leb}, proofs.Bools.and-parts}
+use Rattle.rows.{proofs.Kit.{_≡_, refl, sym, ap, _∙_, Bool, true, false, not, not-false, List, ℕ, zero, suc, _+_, _*_, _<_, _≤_, arith, leb, length, take, drop, leb-true, le-leb}, proofs.Bools.and-parts}
+use Rattle.igvm_defs.specs.Kinds.{kindOf, spans}
 use Rattle.sheet.{specs.declared.Cursor.Cursor, specs.Head.{headOf, rowCount}, specs.Table.{rowKind, rowLength, offsetOf, bodyOf}, specs.Walk.{cursorAt, AtRow, ReadTo}, proofs.Readable.{RowOk, offset-next}, proofs.ReadLaws.read-more}
-use Rattle.sheet_reader.specs.{declared.SheetRow.SheetRow, Reading.{inSheet, readAt, bodyAt, placeAfter}}
+use Rattle.sheet_reader.specs.{declared.SheetRow.SheetRow, Reading.{inSheet, readAt, bodyAt, placeAfter, cursorAfter}}
 
 -- the row is there: the table has it, it is r, and its body lies in the sheet
 pub record Found (s : List ℕ) (row at : ℕ) (r : SheetRow) : Type 0 where
@@ -31,6 +32,24 @@ module _ (s : List ℕ) (row at : ℕ) where
       go true h l = found h
       go false h l = absurd (let none : 0 < 0 = rw h at l in omega arith)
 
+  -- a row of a kind that some list has is there
+  pub list-found : (r : SheetRow) → r ≡ readAt s row at → 0 < kindOf (r .kind) .list → Found s row at r
+  unfolding kindOf spans
+  list-found r e l = kind-found r e (some-kind (r .kind) l)
+    where
+      some-kind : (k : ℕ) → 0 < kindOf k .list → 0 < k
+      some-kind zero l = l
+      some-kind (suc k) l = omega arith
+
+  -- what is read lies in the sheet
+  pub read-room : (r : SheetRow) → r ≡ readAt s row at → at ≤ length s → at + r .length ≤ length s
+  unfolding readAt
+  read-room r e l = rw e (go (inSheet s row at) refl)
+    where
+      go : (b : Bool) → inSheet s row at ≡ b → at + readAt s row at .length ≤ length s
+      go true h = found h .room
+      go false h = rw h (omega arith)
+
   -- a row that table and sheet have room for is there
   in-sheet : 24 + 8 * row ≤ length s → at + rowLength s row ≤ length s → inSheet s row at ≡ true
   unfolding inSheet
@@ -49,7 +68,7 @@ module _ (s : List ℕ) (c : Cursor) (read : ReadTo s c) (r : SheetRow) (f : Fou
   unfolding bodyOf
   body-found = rw (f .size, ap (λ (x : Cursor). x .at) (read .at))
 
-  pub read-after : c .row < rowCount (headOf s) → RowOk s (c .row) → ReadTo s (record { row = c .row + 1; at = c .at + r .length })
+  pub read-after : c .row < rowCount (headOf s) → RowOk s (c .row) → ReadTo s (cursorAfter c r)
   read-after l ok = rw (f .size) (read-more s c read l ok)
 
 -- ---- at a cursor that stands at a row

@@ -27,6 +27,10 @@ bodyAt s row at = cond (inSheet s row at) (take (rowLength s row) (drop at s)) [
 unfoldable pub placeAfter : List ℕ → ℕ → ℕ → Cursor
 placeAfter s row at = cond (inSheet s row at) (record { row = row + 1; at = at + rowLength s row }) (record { row = row; at = at })
 
+-- the place after the row that stands at a place
+abbrev pub cursorAfter : Cursor → SheetRow → Cursor
+cursorAfter c r = record { row = c .row + 1; at = c .at + r .length }
+
 -- the reader of the bytes, at a row and where its body starts
 abbrev pub readerAt : RefT (List ℕ) → ℕ → ℕ → SheetReader
 readerAt b row at = record { bytes = b; row = row; at = at }

@@ -7,7 +7,7 @@ ghost use Rattle.sheet.specs.Head.{limits, headOf, rowCount};
 ghost use Rattle.sheet.specs.Table.{rowKind, bodyOf};
 ghost use Rattle.sheet.specs.Read.{Readable};
 ghost use Rattle.sheet.specs.Walk.{cursorAt, AtRow};
-ghost use Rattle.sheet_reader.specs.Reading.{inSheet, readAt, bodyAt, placeAfter, readerAt, advanced, readRow};
+ghost use Rattle.sheet_reader.specs.Reading.{inSheet, readAt, bodyAt, placeAfter, cursorAfter, readerAt, advanced, readRow};
 use sheet::Cursor;
 use sheet::SheetHead;
 
@@ -51,7 +51,7 @@ pub fn body_from(s: &[u8], c: Cursor, r: SheetRow) -> &[u8]
 // The place after it.
 pub fn after(c: Cursor, r: SheetRow) -> Cursor
     requires { ⌜ (c .row < 18446744073709551615) × (c .at + r .length < 18446744073709551616) ⌝ }
-    ensures { λ d. ⌜ d ≡ record { row = c .row + 1; at = c .at + r .length } ⌝ }
+    ensures { λ d. ⌜ d ≡ cursorAfter c r ⌝ }
 {
     Cursor {
         row: c.row + 1,

@@ -60,16 +60,14 @@ module _ (l : Limits) (s : List ℕ) where
   pub verdict-start : isFault (startFault l s) ≡ true → verdictRefusal l s ≡ inRow 0 (startFault l s)
   unfolding verdictRefusal
   verdict-start e =
-      let q = start-stop l s e in
-      let r : isRefusal (sheetRefusal l s) ≡ true = rw (q, row-refusal) e in
+      let q = start-stop l s e in let r : isRefusal (sheetRefusal l s) ≡ true = rw (q, row-refusal) e in
       orElse-first (sheetRefusal l s) _ r ∙ q
 
   -- the rows
   pub verdict-rows : isFault (startFault l s) ≡ false → isRefusal (rowsRefusal s) ≡ true → verdictRefusal l s ≡ rowsRefusal s
   unfolding verdictRefusal
   verdict-rows e t =
-      let q = sheet-stop l s e t in
-      let r : isRefusal (sheetRefusal l s) ≡ true = rw q t in
+      let q = sheet-stop l s e t in let r : isRefusal (sheetRefusal l s) ≡ true = rw q t in
       orElse-first (sheetRefusal l s) _ r ∙ q
 
   -- the page size
@@ -77,8 +75,7 @@ module _ (l : Limits) (s : List ℕ) where
       → verdictRefusal l s ≡ inRow 0 (pageSizeFault (headOf s))
   unfolding verdictRefusal
   verdict-size e r t =
-      let q = sheet-end l s e r in
-      let u : isRefusal (sheetRefusal l s) ≡ true = rw q t in
+      let q = sheet-end l s e r in let u : isRefusal (sheetRefusal l s) ≡ true = rw q t in
       orElse-first (sheetRefusal l s) _ u ∙ q
 
   pub sheet-none : isFault (startFault l s) ≡ false → isRefusal (rowsRefusal s) ≡ false → isRefusal (inRow 0 (pageSizeFault (headOf s))) ≡ false

@@ -18,8 +18,7 @@ platforms : (c : tie.Else2)
     → (isRefusal (platformsRefusal (sheetHeaders (now (c .before .before .before .before .before .before .before .before .before .before .before .before .before .before .args .s)))) ≡ false)
     × HoldsCca (c .before .before .before .before .accept .result .cca) (sheetHeaders (now (c .before .before .before .before .before .before .before .before .before .before .before .before .before .before .args .s)) .platforms)
 platforms c =
-    let l = c .before .if1 .left in
-    let z = c .if2 .left in
+    let l = c .before .if1 .left in let z = c .if2 .left in
     platforms-none _ _ _ (c .before .before .before .before .accept .ensures) (omega (arith, c .before .before .before .before .before .before .before .before .before .before .before .before .before .before .pre .0)) (omega (arith, c .before .before .before .before .before .before .before .before .before .before .before .before .before .before .pre .0))
 
 -- the initialization rows are in order, and the arrays have their regions
@@ -31,19 +30,16 @@ lists c =
     let l = c .if3 .left in
     initializations-none _ _ _ _ (c .before .before .before .before .before .before .before .before .before .before .before .before .before .before .before .before .before .accept2 .ensures) (omega (arith, c .before .before .before .before .before .before .before .before .before .before .before .before .before .before .before .before .before .before .before .before .before .before .before .before .before .before .before .before .before .before .before .before .before .before .before .before .before .before .before .pre .0)) (platforms (c .before .before .before .before .before .before .before .before .before .before .before .before .before .before .before .before .before .before .before .before .before .before .before .before .before) .0)
 
--- src/lib.rt:86:42
 new-requires : tie.Need-new-requires
 new-requires c κs =
     let b = started-bounds _ (start-says limits _ .0 (c .before .before .before .before .before .before .before .before .pre .0 .0)) in
     omega (arith, b, c .before .before .before .before .before .before .before .before .pre .0)
 
--- src/lib.rt:86:9
 accept-requires : tie.Need-accept-requires
 accept-requires c κs =
     let p = c .before .before .before .before .before .before .before .before .before .pre .0 in
     ((table-room _ (p .0), rw (c .new .ensures, p .3) (read-none _ (table-room _ (p .0))), rw (c .new .ensures), p .1), p .4)
 
--- src/lib.rt:89:9
 returns : tie.Need-returns
 returns c = (
   c .before .before .before .accept .ensures .read,
@@ -51,23 +47,17 @@ returns c = (
   λ f. absurd (let t = c .if1 .taken in let p = c .before .before .before .before .before .before .before .before .before .before .before .before .before .pre .0 .1 in omega arith),
 )
 
--- src/lib.rt:96:9
 returns-2 : tie.Need-returns-2
 returns-2 c =
     let a = c .before .before .before .before .accept .ensures in
     let st = c .before .before .before .before .before .before .before .before .before .before .before .before .before .before .pre in
     (a .read, λ e. absurd (false≢true e), λ f. rw (st .1 .1) (none-passed _ _ (a .read) (let h = a .high in omega arith) f))
 
--- src/lib.rt:105:9
--- src/lib.rt:102:9
 accept-requires-2 : tie.Need-accept-requires-2
 accept-requires-2 c κs =
     let e = c .before .before .before .before .before .before .before in
     let st = c .before .before .before .before .before .before .before .before .before .before .before .before .before .before .before .before .before .before .before .before .before .pre in
-    let a = e .before .before .before .before .accept .ensures in
-    let high = a .high in
-    let l = e .before .if1 .left in
-    let b = bounds e in
+    let a = e .before .before .before .before .accept .ensures in let high = a .high in let l = e .before .if1 .left in let b = bounds e in
     let n = st .1 .0 in (
       (table-room _ (st .0 .0), a .read, omega (arith, st .0), rw (st .0 .1, st .0 .2)),
       (
@@ -76,28 +66,17 @@ accept-requires-2 c κs =
       ),
     )
 
--- src/lib.rt:118:16
 add-if3 : tie.Need-add-if3
 add-if3 c = let b = bounds (c .before .before .before .before .before .before .before .before .before .before .before .before .before .before .before .before .before .before .before .before .before .before .before) in omega (arith, b, c .before .before .before .before .before .before .before .before .before .before .before .before .before .before .before .before .before .before .before .before .before .before .before .before .before .before .before .before .before .before .before .before .before .before .before .before .before .pre .0)
 
--- src/lib.rt:119:9
--- src/lib.rt:119:9
--- src/lib.rt:119:9
--- src/lib.rt:119:9
--- src/lib.rt:119:9
--- src/lib.rt:119:9
--- src/lib.rt:119:9
--- src/lib.rt:119:9
 returns-3 : tie.Need-returns-3
 returns-3 c = (c .before .before .before .before .before .before .before .before .before .before .before .before .before .before .before .before .before .accept2 .ensures .read, λ e. absurd (false≢true e), λ f. absurd (let t = c .if3 .taken in let p = c .before .before .before .before .before .before .before .before .before .before .before .before .before .before .before .before .before .before .before .before .before .before .before .before .before .before .before .before .before .before .before .before .before .before .before .before .before .before .before .pre .0 in omega (arith, p)))
 
--- src/lib.rt:125:5
 accept-directives-requires : tie.Need-accept-directives-requires
 accept-directives-requires c κs =
     let e = c .before .before .before .before .before .before .before in
     let st = c .before .before .before .before .before .before .before .before .before .before .before .before .before .before .before .before .before .before .before .before .before .before .before .before .before .before .before .before .before .before .before .before .before .before .before .before .before .before .before .before .before .before .before .before .before .before .pre in
-    let a = lists e in
-    let n = a .0 .holds .count in
+    let a = lists e in let n = a .0 .holds .count in
     let k = sheet-counts (now (c .before .before .before .before .before .before .before .before .before .before .before .before .before .before .before .before .before .before .before .before .before .before .before .before .before .before .before .before .before .before .before .before .before .before .before .before .before .before .before .before .before .before .before .before .before .before .args .s)) .initializations in (
       (st .0 .0, st .0 .3, st .0 .4),
       (
@@ -106,14 +85,6 @@ accept-directives-requires c κs =
       ),
     )
 
--- src/lib.rt:66:1
--- src/lib.rt:66:1
--- src/lib.rt:66:1
--- src/lib.rt:66:1
--- src/lib.rt:66:1
--- src/lib.rt:66:1
--- src/lib.rt:66:1
--- src/lib.rt:66:1
 returns-4 : tie.Need-returns-4
 returns-4 c =
     let d = c .accept-directives .ensures in

@@ -2,25 +2,20 @@ use Rattle.rows.{proofs.Bools.and-parts, proofs.Kit.{leb-true, not-true, arith,
 use Rattle.acceptance.proofs.{AcceptanceLaws.{table-room, tables-held, all-none}, accept_directives.Statement.statement}
 use Rattle.acceptance.proofs.accept_directives.Tie as tie
 
--- src/lib.rt:47:9
 accept-requires : tie.Need-accept-requires
 accept-requires c κs =
     let p = c .before .before .before .before .before .before .before .before .pre in
-    let lists = p .1 .1 .0 in
-    let n = p .1 .0 in
+    let lists = p .1 .1 .0 in let n = p .1 .0 in
     ((table-room _ (p .0 .0), p .0 .1, p .0 .2), (((n .0, n .1, n .2, n .5), tables-held _ _ _ _ _ _ _ _ (lists .holds)), (lists .read, lists .row, p .1 .1 .1)))
 
--- src/lib.rt:49:9
 returns : tie.Need-returns
 returns c = ((c .before .before .accept .ensures .0, refl), λ numbers rows e. absurd (false≢true e))
 
--- src/lib.rt:56:9
 any-lacks-requires : tie.Need-any-lacks-requires
 any-lacks-requires c κs =
     let n = c .before .before .before .before .before .before .before .before .before .before .before .before .before .pre .1 .0 in
     (n .0, n .3, n .4, c .before .before .before .before .accept .ensures .1)
 
--- src/lib.rt:27:1
 returns-2 : tie.Need-returns-2
 returns-2 c =
     let p = c .before .before .before .before .before .before .before .before .before .before .before .before .before .before .pre in

@@ -2,21 +2,16 @@ use Rattle.rows.proofs.Kit.{needs}
 use Rattle.directive_accept.proofs.{NamedLaws.{rows-first, plain-first}, accept.Statement.statement}
 use Rattle.directive_accept.proofs.accept.Tie as tie
 
--- src/lib.rt:500:9
 past-plain-requires : tie.Need-past-plain-requires
 past-plain-requires c κs =
-    let p = c .before .before .before .before .before .before .pre in
-    let q = p .1 .1 in
+    let p = c .before .before .before .before .before .before .pre in let q = p .1 .1 in
     (p .0, rows-first _ _ (q .1) _ (q .0) (q .2))
 
--- src/lib.rt:502:9
 past-areas-requires : tie.Need-past-areas-requires
 past-areas-requires c κs =
     let p = c .before .before .before .before .before .before .before .before .before .before .pre in
     (p .0, (p .1 .0, plain-first _ _ (p .1 .1 .1) _ _ (c .before .before .before .past-plain .ensures)))
 
--- src/lib.rt:502:9
--- src/lib.rt:483:1
 pub accept-spec : {M : Type 1} → statement M
 accept-spec =
     tie.close (tie.spec past-plain-requires past-areas-requires (λ c. search needs)

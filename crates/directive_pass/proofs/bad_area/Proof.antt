@@ -16,8 +16,7 @@ named : (c : tie.After-naming)
     (c .naming .result .how ≡ howOf (sheetHeaders (now (a .s)) .directives .row (a .i)))
     × (c .naming .result .area ≡ areaNumber (areaOf (sheetHeaders (now (a .s)) .directives .row (a .i))))
 named c =
-    let st = c .before .before .before .before in
-    let (ok, _, l, at) = st .pre in
+    let st = c .before .before .before .before in let (ok, _, l, at) = st .pre in
     let (how, area) = row-named (now (st .args .s)) ok (st .args .c) (st .args .i) at l in
     rw (c .before .before .cursor-row .ensures .0, c .before .cursor-body .ensures, how, area) at (c .naming .ensures)
 
@@ -31,8 +30,7 @@ returns-2 c =
 
 returns-3 : tie.Need-returns-3
 returns-3 c =
-    let n = c .before .before .before .before .before .before .before in
-    let k = c .before .before .before .before .known-area .ensures in
+    let n = c .before .before .before .before .before .before .before in let k = c .before .before .before .before .known-area .ensures in
     rw (bad-area-says _ _, ← named n .0, ne-eqb _ _ (c .before .before .before .before .before .if1 .left), ne-eqb _ _ (c .before .before .if2 .left), ← named n .1, ← k .0, ← k .1)
 
 pub bad-area-spec : {M : Type 1} → statement M

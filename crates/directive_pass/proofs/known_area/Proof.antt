@@ -36,8 +36,7 @@ loop-again : tie.Need-loop-again Inv-loop μ-loop
 loop-again c =
     let turn = c .before .before .before .before .before .before .before in
     let st = c .before .before .before .before .before .before .before .before .before .before .before .before .before in
-    let l = turn .before .loop in
-    let xs = sheetHeaders (now (st .args .s)) .directives in
+    let l = turn .before .loop in let xs = sheetHeaders (now (st .args .s)) .directives in
     let row = c .before .before .before .before .before .before .cursor-row .ensures in
     let (how, area) = row-named (now (st .args .s)) (st .pre .0) (l .c) (l .i) (l .inv .1) (within turn) in
     let name = rw (row .0, c .before .before .before .before .before .cursor-body .ensures, how, area) at (c .before .before .before .before .naming .ensures) in (

@@ -23,9 +23,7 @@ loop-again c =
     )
 
 returns : tie.Need-returns Inv-loop μ-loop
-returns c =
-    let e : c .before .loop .i ≡ c .before .before .args .t1 .count = omega arith in
-    rw e at (c .before .loop .inv .1)
+returns c = let e : c .before .loop .i ≡ c .before .before .args .t1 .count = omega arith in rw e at (c .before .loop .inv .1)
 
 pub no-matching-vp-context-spec : {M : Type 1} → statement M
 no-matching-vp-context-spec =

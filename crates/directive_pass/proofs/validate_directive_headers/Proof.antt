@@ -34,12 +34,8 @@ sub-i c =
 
 loop-holds : tie.Need-loop-holds Inv-loop μ-loop
 loop-holds c =
-    let st = c .before .before .before .before .before .before .before in
-    let s = now (st .args .s) in
-    let e = st .pre .0 .1 in
-    let from = st .pre .1 .0 in
-    let low = from .1 in
-    let high = from .2 in
+    let st = c .before .before .before .before .before .before .before in let s = now (st .args .s) in let e = st .pre .0 .1 in
+    let from = st .pre .1 .0 in let low = from .1 in let high = from .2 in
     let first : st .args .head .platforms + st .args .head .initializations ≡ firstDirective s = ap (λ (h : SheetHead). h .platforms + h .initializations) e in
     let rows : st .args .head .directives ≡ headOf s .directives = ap (λ (h : SheetHead). h .directives) e in
     let here : st .args .from .row - (st .args .head .platforms + st .args .head .initializations) ≡ st .args .from .row - firstDirective s = omega arith in
@@ -98,6 +94,7 @@ pub validate-directive-headers-spec : {M : Type 1} → statement M
 validate-directive-headers-spec =
     tie.close (tie.spec Inv-loop μ-loop (λ c. search needs) (λ c. search needs) (λ c. search needs) (λ c. search needs)
     (λ c κs. search needs) (λ c κs. search needs) sub-i loop-holds bad-area-requires
-    (λ c κs. directive-known (c .before .before .loop .inv) (c .before .loop-test .taken)) (λ c κs. directive-room (c .before .before .before .before .before .before .before .before .loop .inv))
-    (λ c κs. search needs) (λ c κs. search needs) add-in-row add-in-row-2 (λ c κs. search needs) returns add-i loop-less
-    loop-again (λ c κs. directive-room (c .before .loop .inv)) (λ c κs. search needs) (λ c κs. search needs) returns-2)
+    (λ c κs. directive-known (c .before .before .loop .inv) (c .before .loop-test .taken))
+    (λ c κs. directive-room (c .before .before .before .before .before .before .before .before .loop .inv)) (λ c κs. search needs)
+    (λ c κs. search needs) add-in-row add-in-row-2 (λ c κs. search needs) returns add-i loop-less loop-again
+    (λ c κs. directive-room (c .before .loop .inv)) (λ c κs. search needs) (λ c κs. search needs) returns-2)

@@ -2,6 +2,7 @@ use mir.Val.{boolByte}
 use Rattle.rows.{proofs.Kit.{_≡_, refl, Bool, true, false, not, _&&_, _||_, _+_, _-_, _*_, _≤_, _<_, length, arith, needs, not-false, now}, proofs.Bools.or-false-parts}
 use Rattle.sheet.{specs.Head.headOf, specs.Table.{rowKind, bodyOf}}
 use Rattle.initialization_check.specs.Record.{regionsIn}
+use Rattle.sheet_reader.proofs.ReaderLaws.{Found, read-room}
 use Rattle.sheet_headers.specs.Headers.{sheetHeaders}
 use Rattle.initialization_row.specs.Row.{InOrder}
 use Rattle.initialization_accept.proofs.{RowsLaws.{Reached, reached-none, row-known, row-order, row-faultless, reached-next}, accept.Statement.statement}
@@ -18,8 +19,7 @@ abbrev μ-loop : tie.MeasureT-loop
 loop-holds : tie.Need-loop-holds Inv-loop μ-loop
 loop-holds c =
     let st = c .before .before .before .before .before .before .before .before .before in
-    let (table, read, first, last) = st .pre .0 in
-    let (platforms, initializations, arch, bits) = st .pre .1 .0 in
+    let (table, read, first, last) = st .pre .0 in let (platforms, initializations, arch, bits) = st .pre .1 .0 in
     let (m, g, z, p, v, t, n) = st .pre .1 .1 in
     reached-none (now (st .args .s)) (st .args .end) (st .args .x64) (st .args .cca) _ _ (st .args .from) (c .new .result)
     (record { table = table; last = last; platforms = platforms; initializations = initializations; arch = arch; bits = bits })
@@ -33,140 +33,107 @@ at-row : (c : tie.Then1 Inv-loop μ-loop)
     (24 + 8 * l .c .row ≤ length s) × (l .c .at ≤ length s) × (l .c .row < 80) × (l .n < headOf s .initializations)
 at-row c = row-known (c .before .before .loop .inv) (c .if1 .taken)
 
+-- what is read lies in the sheet
+fits : (c : tie.After-row-from Inv-loop μ-loop) → c .before .before .before .loop .c .at + c .row-from .result .length ≤ length (now (c .before .before .before .before .before .before .before .before .before .before .before .before .before .args .s))
+fits c = read-room _ _ _ _ (c .row-from .ensures) (at-row (c .before) .1)
+
 -- the row's tests passed
-passed : (c : tie.Else3 Inv-loop μ-loop)
+passed : (c : tie.Else2 Inv-loop μ-loop)
     → let f = c .before .before .before .before .before .before .before .before .before .before .row-of .result in
     (f .ok ≡ true) × ((f .found && (c .before .before .before .before .before .before .any-tables-share .result || c .before .before .any-near-overlap .result)) ≡ false)
 passed c =
     let f = c .before .before .before .before .before .before .before .before .before .before .row-of .result in
-    let (a, b) = or-false-parts (not (f .ok)) _ (c .if3 .left) in
+    let (a, b) = or-false-parts (not (f .ok)) _ (c .if2 .left) in
     (not-false (f .ok) a, b)
 
--- the row is in order by itself
-order : (c : tie.Else3 Inv-loop μ-loop)
-    → let l = c .before .before .before .before .before .before .before .before .before .before .before .before .before .before .before .before .before in
-    let s = now (l .before .before .before .before .before .before .before .before .before .before .args .s) in
+-- the row is there, and in order by itself
+order : (c : tie.Else2 Inv-loop μ-loop)
+    → let l = c .before .before .before .before .before .before .before .before .before .before .before .before .before .before .before .loop in
+    let s = now (c .before .before .before .before .before .before .before .before .before .before .before .before .before .before .before .before .before .before .before .before .before .before .before .before .before .args .s) in
     let f = c .before .before .before .before .before .before .before .before .before .before .row-of .result in
-    InOrder (sheetHeaders s .arch) (sheetHeaders s .platforms) (rowKind s (l .loop .c .row)) (bodyOf s (l .loop .c .row)) (f .found) (f .region)
+    Found s (l .c .row) (l .c .at) (c .before .before .before .before .before .before .before .before .before .before .before .before .row-from .result)
+    × InOrder (sheetHeaders s .arch) (sheetHeaders s .platforms) (rowKind s (l .c .row)) (bodyOf s (l .c .row)) (f .found) (f .region)
 order c =
-    let f = c .before .before .before .before .before .before .before .before .before .before in
-    row-order (c .before .before .before .before .before .before .before .before .before .before .before .before .before .before .before .before .before .loop .inv) _ _ _ _ _ _ (f .before .before .kind-at .ensures) (f .before .before .before .before .length-at .ensures .0) (f .before .part .ensures) (f .row-of .ensures) (passed c .0)
+    let r = c .before .before .before .before .before .before .before .before .before .before .before .before .before .before .before .loop .inv in
+    row-order r _ _ _ _ (c .before .before .before .before .before .before .before .before .before .before .before .before .row-from .ensures) (c .before .before .before .before .before .before .before .before .before .before .before .body-from .ensures) (c .before .before .before .before .before .before .before .before .before .before .row-of .ensures _ _ (r .asked .arch) (r .asked .bits) (passed c .0))
 
 -- the arrays have room for it
-room : (c : tie.Else3 Inv-loop μ-loop)
-    → let l = c .before .before .before .before .before .before .before .before .before .before .before .before .before .before .before .before .before .loop in
+room : (c : tie.Else2 Inv-loop μ-loop)
+    → let l = c .before .before .before .before .before .before .before .before .before .before .before .before .before .before .before .loop in
     (l .n < 64) × (l .n < length (l .masks)) × (l .n < length (l .gpas)) × (l .n < length (l .sizes)) × (l .n < length (l .vps)) × (l .n < length (l .vtls))
     × (l .n < length (l .tables)) × (l .n < length (l .rows))
 room c =
-    let l = at-row (c .before .before .before .before .before .before .before .before .before .before .before .before .before .before .before) .3 in
-    let inv = c .before .before .before .before .before .before .before .before .before .before .before .before .before .before .before .before .before .loop .inv in
-    let small = inv .asked .initializations in
-    let lent = inv .lent in
+    let l = at-row (c .before .before .before .before .before .before .before .before .before .before .before .before .before) .3 in
+    let inv = c .before .before .before .before .before .before .before .before .before .before .before .before .before .before .before .loop .inv in
+    let small = inv .asked .initializations in let lent = inv .lent in
     omega arith
 
 one-at-most : (b : Bool) → boolByte b ≤ 1
 one-at-most true = omega arith
 one-at-most false = omega arith
 
--- its body lies in the sheet
-fits : (c : tie.Else2 Inv-loop μ-loop) → c .before .length-at .result ≤ length (now (c .before .before .before .before .before .before .before .before .before .before .before .before .before .before .args .s)) - c .before .before .before .before .loop .c .at
-fits c =
-    let room = at-row (c .before .before) .1 in
-    let l = c .if2 .left in
-    omega arith
-
-part-requires : tie.Need-part-requires Inv-loop μ-loop
-part-requires c κs =
-    let room = at-row (c .before .before .before) .1 in
-    let l = fits (c .before) in
-    omega arith
-
 any-tables-share-requires : tie.Need-any-tables-share-requires Inv-loop μ-loop
 any-tables-share-requires c κs =
-    let t = c .before .before .before .before .before .before .before .before in
-    let l = at-row t .3 in
-    let lent = t .before .before .loop .inv .lent in
+    let l = at-row (c .before .before .before .before .before .before) .3 in
+    let lent = c .before .before .before .before .before .before .before .before .loop .inv .lent in
     omega arith
 
 any-near-overlap-requires : tie.Need-any-near-overlap-requires Inv-loop μ-loop
 any-near-overlap-requires c κs =
-    let t = c .before .before .before .before .before .before .before .before .before .before .before .before in
-    let l = at-row t .3 in
-    let lent = t .before .before .loop .inv .lent in
+    let l = at-row (c .before .before .before .before .before .before .before .before .before .before) .3 in
+    let lent = c .before .before .before .before .before .before .before .before .before .before .before .before .loop .inv .lent in
     omega arith
 
-same-length-8 : tie.Need-same-length-8 Inv-loop μ-loop
-same-length-8 c = c .before .before .before .before .before .before .before .before .before .before .before .before .before .before .before .before .before .loop .inv .lent .mask .0
-
-same-length-9 : tie.Need-same-length-9 Inv-loop μ-loop
-same-length-9 c = c .before .before .before .before .before .before .before .before .before .before .before .before .before .before .before .before .before .loop .inv .lent .gpa .0
-
-same-length-10 : tie.Need-same-length-10 Inv-loop μ-loop
-same-length-10 c = c .before .before .before .before .before .before .before .before .before .before .before .before .before .before .before .before .before .loop .inv .lent .size .0
-
-same-length-11 : tie.Need-same-length-11 Inv-loop μ-loop
-same-length-11 c = c .before .before .before .before .before .before .before .before .before .before .before .before .before .before .before .before .before .loop .inv .lent .vp .0
-
-same-length-12 : tie.Need-same-length-12 Inv-loop μ-loop
-same-length-12 c = c .before .before .before .before .before .before .before .before .before .before .before .before .before .before .before .before .before .loop .inv .lent .vtl .0
-
-same-length-13 : tie.Need-same-length-13 Inv-loop μ-loop
-same-length-13 c = c .before .before .before .before .before .before .before .before .before .before .before .before .before .before .before .before .before .loop .inv .lent .table .0
-
-same-length-14 : tie.Need-same-length-14 Inv-loop μ-loop
-same-length-14 c = c .before .before .before .before .before .before .before .before .before .before .before .before .before .before .before .before .before .loop .inv .lent .number .0
-
-returns-2 : tie.Need-returns-2 Inv-loop μ-loop
-returns-2 c = c .before .before .before .before .before .before .before .before .before .before .before .before .before .before .before .before .before .loop .inv .accepted
+-- what held at the loop's head, where the row's tests fail
+kept : (c : tie.Then2 Inv-loop μ-loop)
+    → let st = c .before .before .before .before .before .before .before .before .before .before .before .before .before .before .before .before .before .before .before .before .before .before .before .before .before in
+    let l = c .before .before .before .before .before .before .before .before .before .before .before .before .before .before .before .loop in
+    Reached (now (st .args .s)) (st .args .end) (st .args .x64) (st .args .cca)
+    (regionsIn (now (st .args .masks)) (now (st .args .gpas)) (now (st .args .sizes)) (now (st .args .vps)) (now (st .args .vtls)) (now (st .args .tables)) 0) (now (st .args .rows))
+    (regionsIn (l .masks) (l .gpas) (l .sizes) (l .vps) (l .vtls) (l .tables) (l .n)) (l .rows) (l .c) (l .reach)
+kept c = c .before .before .before .before .before .before .before .before .before .before .before .before .before .before .before .loop .inv
 
 add-rows : tie.Need-add-rows Inv-loop μ-loop
-add-rows c = let l = at-row (c .before .before .before .before .before .before .before .before .before .before .before .before .before .before .before) .2 in omega arith
+add-rows c = let l = at-row (c .before .before .before .before .before .before .before .before .before .before .before .before .before .before) .2 in omega arith
 
 cast-rows : tie.Need-cast-rows Inv-loop μ-loop
-cast-rows c = let l = at-row (c .before .before .before .before .before .before .before .before .before .before .before .before .before .before .before) .2 in omega arith
+cast-rows c = let l = at-row (c .before .before .before .before .before .before .before .before .before .before .before .before .before .before) .2 in omega arith
 
 add-n : tie.Need-add-n Inv-loop μ-loop
 add-n c =
-    let l = room c .0 in
-    let m = one-at-most (c .before .before .before .before .before .before .before .before .before .before .row-of .result .found) in
+    let l = room (c .before) .0 in
+    let m = one-at-most (c .before .before .before .before .before .before .before .before .before .before .before .row-of .result .found) in
     omega arith
 
-add-t26 : tie.Need-add-t26 Inv-loop μ-loop
-add-t26 c = let l = at-row (c .before .before .before .before .before .before .before .before .before .before .before .before .before .before .before .before) .2 in omega arith
-
-add-t25 : tie.Need-add-t25 Inv-loop μ-loop
-add-t25 c =
-    let el = c .before .before .before .before .before .before .before .before .before .before .before .before .before .before in
-    let room = at-row (el .before .before) .1 in
-    let l = fits el in
-    let s = el .before .before .before .before .before .before .before .before .before .before .before .before .before .before .good .0 .0 in
-    omega arith
+after-requires : tie.Need-after-requires Inv-loop μ-loop
+after-requires c κs =
+    let s = c .before .before .before .before .before .before .before .before .before .before .before .before .before .before .before .before .before .before .before .before .before .before .before .before .before .before .before .good .0 .0 in
+    let r = fits (c .before .before .before .before .before .before .before .before .before .before .before .before .before .before) in
+    let l = at-row (c .before .before .before .before .before .before .before .before .before .before .before .before .before .before .before) .2 in
+    (omega arith, omega arith)
 
 loop-less : tie.Need-loop-less Inv-loop μ-loop
-loop-less c = let l = c .before .before .before .before .before .before .before .before .before .before .before .before .before .before .before .before .if1 .taken in omega arith
+loop-less c = rw (c .after .ensures) (let l = c .before .before .before .before .before .before .before .before .before .before .before .before .before .before .before .before .if1 .taken in omega arith)
 
 loop-again : tie.Need-loop-again Inv-loop μ-loop
 loop-again c =
-    let e = c .before in
-    let el = e .before .before .before .before .before .before .before .before .before .before .before .before .before in
-    let t = el .before .before in
-    let inv = t .before .before .loop .inv in
-    let faultless = row-faultless inv _ _ _ (t .if1 .taken) (el .before .length-at .ensures .0) (fits el) (order e) _ _ (e .before .before .before .before .before .before .any-tables-share .ensures) (e .before .before .any-near-overlap .ensures) (passed e .1) in
-    reached-next inv _ _ _ (t .if1 .taken) (el .before .length-at .ensures .0) (fits el) (order e) _ faultless (c .with .ensures)
+    let e = c .before .before .before in
+    let inv = c .before .before .before .before .before .before .before .before .before .before .before .before .before .before .before .before .before .before .loop .inv in
+    let l = c .before .before .before .before .before .before .before .before .before .before .before .before .before .before .before .before .if1 .taken in
+    let (f, good) = order e in
+    let faultless = row-faultless inv _ _ _ l f good _ _ (c .before .before .before .before .before .before .before .before .before .any-tables-share .ensures) (c .before .before .before .before .before .any-near-overlap .ensures) (passed e .1) in
+    rw (c .after .ensures) (reached-next inv _ _ _ l f good _ faultless (c .before .with .ensures))
 
 pub accept-spec : {M : Type 1} → statement M
 accept-spec =
-    tie.close (tie.spec Inv-loop μ-loop (λ c κs. search needs) loop-holds (λ c κs. at-row c .0) (λ c. at-row (c .before) .1)
-    (λ c. c .before .before .before .before .loop .inv .lent .mask .0) (λ c. c .before .before .before .before .loop .inv .lent .gpa .0)
-    (λ c. c .before .before .before .before .loop .inv .lent .size .0) (λ c. c .before .before .before .before .loop .inv .lent .vp .0)
-    (λ c. c .before .before .before .before .loop .inv .lent .vtl .0) (λ c. c .before .before .before .before .loop .inv .lent .table .0)
-    (λ c. c .before .before .before .before .loop .inv .lent .number .0) (λ c. c .before .before .before .before .loop .inv .accepted)
-    (λ c κs. at-row (c .before .before) .0) part-requires (λ c κs. search needs) any-tables-share-requires any-near-overlap-requires
-    same-length-8 same-length-9 same-length-10 same-length-11 same-length-12 same-length-13 same-length-14 returns-2
-    (λ c. let small = room c .0 in omega arith) (λ c. room c .1) (λ c. let small = room c .0 in omega arith) (λ c. room c .2)
-    (λ c. let small = room c .0 in omega arith) (λ c. room c .3) (λ c. let small = room c .0 in omega arith) (λ c. room c .4)
-    (λ c. room c .5) (λ c. room c .6) add-rows cast-rows (λ c. let small = room c .0 in omega arith) (λ c. room c .7) (λ c. search needs)
-    add-n (λ c κs. order c .ends) add-t26 add-t25 loop-less loop-again (λ c. c .before .before .loop .inv .lent .mask .0)
+    tie.close (tie.spec Inv-loop μ-loop (λ c κs. search needs) loop-holds (λ c κs. let k = at-row c in (k .0, k .1)) (λ c κs. fits c)
+    (λ c κs. search needs) any-tables-share-requires any-near-overlap-requires (λ c. kept c .lent .mask .0) (λ c. kept c .lent .gpa .0)
+    (λ c. kept c .lent .size .0) (λ c. kept c .lent .vp .0) (λ c. kept c .lent .vtl .0) (λ c. kept c .lent .table .0)
+    (λ c. kept c .lent .number .0) (λ c. kept c .accepted) (λ c. let small = room c .0 in omega arith) (λ c. room c .1)
+    (λ c. let small = room c .0 in omega arith) (λ c. room c .2) (λ c. let small = room c .0 in omega arith) (λ c. room c .3)
+    (λ c. let small = room c .0 in omega arith) (λ c. room c .4) (λ c. room c .5) (λ c. room c .6) add-rows cast-rows
+    (λ c. let small = room (c .before) .0 in omega arith) (λ c. room (c .before) .7) (λ c. search needs) add-n
+    (λ c κs. order (c .before) .1 .ends) after-requires loop-less loop-again (λ c. c .before .before .loop .inv .lent .mask .0)
     (λ c. c .before .before .loop .inv .lent .gpa .0) (λ c. c .before .before .loop .inv .lent .size .0)
     (λ c. c .before .before .loop .inv .lent .vp .0) (λ c. c .before .before .loop .inv .lent .vtl .0)
     (λ c. c .before .before .loop .inv .lent .table .0) (λ c. c .before .before .loop .inv .lent .number .0)

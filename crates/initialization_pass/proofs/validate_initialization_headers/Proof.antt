@@ -58,16 +58,12 @@ small c = initialization-small (c .before .loop .inv) (c .loop-test .taken)
 
 returns : tie.Need-returns Inv-loop μ-loop
 returns c =
-    let d = c .before .before .before .before in
-    let t = d .before .before .before .before .before .before .before in
+    let d = c .before .before .before .before in let t = d .before .before .before .before .before .before .before in
     let e : isFault (d .check .result .fault) ≡ true = rw (← c .before .before .is-fault .ensures) (c .before .if1 .taken) in
     rw (c .in-row .ensures) (initializations-stop (t .before .loop .inv) _ _ _ (t .loop-test .taken) (stepped d) e)
 
 add-regions : tie.Need-add-regions Inv-loop μ-loop
-add-regions c =
-    let l = room c in
-    let m = one-at-most (c .before .before .before .before .check .result .found) in
-    omega arith
+add-regions c = let l = room c in let m = one-at-most (c .before .before .before .before .check .result .found) in omega arith
 
 with-requires : tie.Need-with-requires Inv-loop μ-loop
 with-requires c κs = stepped (c .before .before .before .before) .ends (rw (← c .before .before .is-fault .ensures) (c .before .if1 .left))
@@ -77,8 +73,7 @@ add-i c = let l = small (c .before .before .before .before .before .before .befo
 
 loop-again : tie.Need-loop-again Inv-loop μ-loop
 loop-again c =
-    let d = c .before .before .before .before .before .before in
-    let t = d .before .before .before .before .before .before .before in
+    let d = c .before .before .before .before .before .before in let t = d .before .before .before .before .before .before .before in
     let e : isFault (d .check .result .fault) ≡ false = rw (← c .before .before .before .before .is-fault .ensures) (c .before .before .before .if1 .left) in
     initialization-next (t .before .loop .inv) _ _ _ _ _ (t .loop-test .taken) (stepped d) e (c .before .with .ensures) (c .before .before .before .before .before .before .before .before .before .before .before .before .initialization-at .ensures .1)
 
@@ -86,7 +81,11 @@ pub validate-initialization-headers-spec : {M : Type 1} → statement M
 validate-initialization-headers-spec =
     tie.close (tie.spec Inv-loop μ-loop (λ c. search needs) (λ c. search needs) (λ c κs. search needs) (λ c κs. search needs)
     cursor-at-requires (λ c κs. search needs) (λ c κs. search needs) loop-holds
-    (λ c κs. initialization-known (c .before .loop .inv) (c .loop-test .taken)) check-requires (λ c κs. search needs) (λ c. let l = small (c .before .before .before .before .before .before .before .before .before .before) in omega arith) (λ c. let l = small (c .before .before .before .before .before .before .before .before .before .before) in omega arith) (λ c κs. search needs) returns (λ c. let l = room c in search needs) (λ c. let l = room c in search needs) (λ c. let l = room c in search needs) (λ c. let l = room c in search needs) (λ c. let l = room c in search needs)
-    (λ c. let l = room c in search needs) (λ c. let l = room c in search needs) (λ c. let l = room c in search needs) (λ c. let l = room c in search needs) (λ c. let l = room c in search needs) (λ c. search needs)
-    add-regions with-requires add-i (λ c. search needs) loop-again
-    (λ c. initializations-end (c .before .loop .inv) (c .loop-test .left)))
+    (λ c κs. initialization-known (c .before .loop .inv) (c .loop-test .taken)) check-requires (λ c κs. search needs)
+    (λ c. let l = small (c .before .before .before .before .before .before .before .before .before .before) in omega arith)
+    (λ c. let l = small (c .before .before .before .before .before .before .before .before .before .before) in omega arith)
+    (λ c κs. search needs) returns (λ c. let l = room c in search needs) (λ c. let l = room c in search needs)
+    (λ c. let l = room c in search needs) (λ c. let l = room c in search needs) (λ c. let l = room c in search needs)
+    (λ c. let l = room c in search needs) (λ c. let l = room c in search needs) (λ c. let l = room c in search needs)
+    (λ c. let l = room c in search needs) (λ c. let l = room c in search needs) (λ c. search needs) add-regions with-requires add-i
+    (λ c. search needs) loop-again (λ c. initializations-end (c .before .loop .inv) (c .loop-test .left)))

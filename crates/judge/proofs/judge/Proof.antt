@@ -28,13 +28,6 @@ tables-kept c = search needs
 rows-kept : (c : tie.Else1) → length (c .before .before .before .before .before .before .before .before .before .before .before .before .before .before .before .before .before .before .accept .last .1 .1 .1 .1 .1 .1 .1 .1 .1 .1 .1 .0) ≡ length (now (c .before .before .before .before .before .before .before .before .before .before .before .before .before .before .before .before .before .before .before .before .before .before .before .before .before .before .before .before .before .before .before .before .before .before .before .before .before .before .before .before .before .args .rows))
 rows-kept c = search needs
 
--- src/lib.rt:157:13
--- src/lib.rt:158:13
--- src/lib.rt:159:15
--- src/lib.rt:159:15
--- src/lib.rt:159:9
--- src/lib.rt:164:9
--- src/lib.rt:160:9
 accept-requires : tie.Need-accept-requires
 accept-requires c κs =
     let st = c .before .before .before .before .before .before .before .before .before .before .before .before .before .before .before .before .before .before .before .before .before .before in
@@ -42,17 +35,6 @@ accept-requires c κs =
     let x = c .before .before .before .before .before .before .before .before .before .is-x64 .ensures ∙ ap isX64 (c .before .before .before .before .before .before .before .before .before .before .arch .ensures ∙ ap archOf (c .before .before .before .before .before .before .before .before .before .before .before .revision .ensures ∙ ap revisionOf h) ∙ sheet-counts _ .arch) in
     ((st .pre .0 .0, ap (λ (y : SheetHead). y .platforms) h, ap (λ (y : SheetHead). y .initializations) h, c .before .before .before .before .before .before .before .before .rows .ensures ∙ ap rowCount h, x), (rw (ap (λ (y : SheetHead). y .initializations) h) (st .pre .1 .0), st .pre .1 .1))
 
--- src/lib.rt:175:9
--- src/lib.rt:176:22
--- src/lib.rt:178:22
--- src/lib.rt:177:9
--- src/lib.rt:177:9
--- src/lib.rt:177:9
--- src/lib.rt:177:9
--- src/lib.rt:177:9
--- src/lib.rt:177:9
--- src/lib.rt:177:9
--- src/lib.rt:177:9
 returns : tie.Need-returns
 returns c =
     let st = c .before .before .before .before .before .before .before .before .before .before .before .before .before .before .before .before .before .before .before .before .before .before .before .before .before .before .before .before .before .before .before .before .before .before .before .before .before .before .before .before .before .before in
@@ -62,56 +44,47 @@ returns c =
     let e = sheet-none limits _ (st .pre .0 .0) (a .read) size in
     (c .accepted .ensures ∙ rw (st .pre .0 .1) (sym (verdict-none limits _ e (a .headers))), λ f. a .kept)
 
--- src/lib.rt:182:5
 judge-from-requires : tie.Need-judge-from-requires
 judge-from-requires c κs =
     let st = c .before .before .before .before .before .before .before .before .before .before .before .before .before .before .before .before .before .before .before .before .before .before .before .before .before .before .before .before .before .before .before .before .before .before .before .before .before .before .before .before .before .before .before .before .before .before .before .before .before .pre in
     let n = st .1 .0 in
     ((st .0 .0, st .0 .1, c .before .before .before .before .before .before .before .before .before .before .before .before .before .before .before .before .before .before .before .before .before .before .before .before .before .before .accept .ensures .0, c .before .before .before .before .before .before .before .before .before .before .before .before .before .before .before .before .before .before .before .before .before .before .before .before .before .before .accept .ensures .2), (omega (arith, n), omega (arith, n), omega (arith, n), omega (arith, n), omega (arith, n), omega (arith, n), omega (arith, n)))
 
--- src/lib.rt:139:1
 same-length-8 : tie.Need-same-length-8
 same-length-8 c =
     let a : length (c .before .before .before .before .before .before .before .before .before .before .before .before .before .before .judge-from .last .1 .1 .1 .0) ≡ length (c .before .before .before .before .before .before .before .before .before .before .before .before .before .before .before .before .before .before .before .before .before .before .before .before .before .before .before .before .before .before .before .before .before .before .before .before .before .before .before .before .before .accept .last .1 .1 .1 .1 .1 .0) = search needs in
     a ∙ masks-kept (c .before .before .before .before .before .before .before .before .before .before .before .before .before .before .before .before .before .before .before .before .before .before .before)
 
--- src/lib.rt:139:1
 same-length-9 : tie.Need-same-length-9
 same-length-9 c =
     let a : length (c .before .before .before .before .before .before .before .before .before .before .before .before .before .before .judge-from .last .1 .1 .1 .1 .0) ≡ length (c .before .before .before .before .before .before .before .before .before .before .before .before .before .before .before .before .before .before .before .before .before .before .before .before .before .before .before .before .before .before .before .before .before .before .before .before .before .before .before .before .before .accept .last .1 .1 .1 .1 .1 .1 .0) = search needs in
     a ∙ gpas-kept (c .before .before .before .before .before .before .before .before .before .before .before .before .before .before .before .before .before .before .before .before .before .before .before)
 
--- src/lib.rt:139:1
 same-length-10 : tie.Need-same-length-10
 same-length-10 c =
     let a : length (c .before .before .before .before .before .before .before .before .before .before .before .before .before .before .judge-from .last .1 .1 .1 .1 .1 .0) ≡ length (c .before .before .before .before .before .before .before .before .before .before .before .before .before .before .before .before .before .before .before .before .before .before .before .before .before .before .before .before .before .before .before .before .before .before .before .before .before .before .before .before .before .accept .last .1 .1 .1 .1 .1 .1 .1 .0) = search needs in
     a ∙ sizes-kept (c .before .before .before .before .before .before .before .before .before .before .before .before .before .before .before .before .before .before .before .before .before .before .before)
 
--- src/lib.rt:139:1
 same-length-11 : tie.Need-same-length-11
 same-length-11 c =
     let a : length (c .before .before .before .before .before .before .before .before .before .before .before .before .before .before .judge-from .last .1 .1 .1 .1 .1 .1 .0) ≡ length (c .before .before .before .before .before .before .before .before .before .before .before .before .before .before .before .before .before .before .before .before .before .before .before .before .before .before .before .before .before .before .before .before .before .before .before .before .before .before .before .before .before .accept .last .1 .1 .1 .1 .1 .1 .1 .1 .0) = search needs in
     a ∙ vps-kept (c .before .before .before .before .before .before .before .before .before .before .before .before .before .before .before .before .before .before .before .before .before .before .before)
 
--- src/lib.rt:139:1
 same-length-12 : tie.Need-same-length-12
 same-length-12 c =
     let a : length (c .before .before .before .before .before .before .before .before .before .before .before .before .before .before .judge-from .last .1 .1 .1 .1 .1 .1 .1 .0) ≡ length (c .before .before .before .before .before .before .before .before .before .before .before .before .before .before .before .before .before .before .before .before .before .before .before .before .before .before .before .before .before .before .before .before .before .before .before .before .before .before .before .before .before .accept .last .1 .1 .1 .1 .1 .1 .1 .1 .1 .0) = search needs in
     a ∙ vtls-kept (c .before .before .before .before .before .before .before .before .before .before .before .before .before .before .before .before .before .before .before .before .before .before .before)
 
--- src/lib.rt:139:1
 same-length-13 : tie.Need-same-length-13
 same-length-13 c =
     let a : length (c .before .before .before .before .before .before .before .before .before .before .before .before .before .before .judge-from .last .1 .1 .1 .1 .1 .1 .1 .1 .0) ≡ length (c .before .before .before .before .before .before .before .before .before .before .before .before .before .before .before .before .before .before .before .before .before .before .before .before .before .before .before .before .before .before .before .before .before .before .before .before .before .before .before .before .before .accept .last .1 .1 .1 .1 .1 .1 .1 .1 .1 .1 .0) = search needs in
     a ∙ tables-kept (c .before .before .before .before .before .before .before .before .before .before .before .before .before .before .before .before .before .before .before .before .before .before .before)
 
--- src/lib.rt:139:1
 same-length-14 : tie.Need-same-length-14
 same-length-14 c =
     let a : length (c .before .before .before .before .before .before .before .before .before .before .before .before .before .before .judge-from .last .1 .1 .1 .1 .1 .1 .1 .1 .1 .0) ≡ length (c .before .before .before .before .before .before .before .before .before .before .before .before .before .before .before .before .before .before .before .before .before .before .before .before .before .before .before .before .before .before .before .before .before .before .before .before .before .before .before .before .before .accept .last .1 .1 .1 .1 .1 .1 .1 .1 .1 .1 .1 .0) = search needs in
     a ∙ rows-kept (c .before .before .before .before .before .before .before .before .before .before .before .before .before .before .before .before .before .before .before .before .before .before .before)
 
--- src/lib.rt:139:1
 pub judge-spec : {M : Type 1} → statement M
 judge-spec =
     tie.close (tie.spec (λ c. search needs) (λ c. search needs) (λ c κs. search needs) (λ c κs. search needs) (λ c κs. search needs)

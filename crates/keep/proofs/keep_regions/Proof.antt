@@ -10,8 +10,7 @@ Inv-loop s masks₀ gpas₀ sizes₀ vps₀ vtls₀ tables₀ rows₀ first coun
     Reached s first count (regionsIn masks₀ gpas₀ sizes₀ vps₀ vtls₀ tables₀ n₀) rows₀ (regionsIn masks gpas sizes vps vtls tables n) rows c i
 
 abbrev μ-loop : tie.MeasureT-loop
-μ-loop s masks₀ gpas₀ sizes₀ vps₀ vtls₀ tables₀ rows₀ first count c₀ n₀ i₀ masks gpas sizes vps vtls tables rows c n i =
-    count - i
+μ-loop s masks₀ gpas₀ sizes₀ vps₀ vtls₀ tables₀ rows₀ first count c₀ n₀ i₀ masks gpas sizes vps vtls tables rows c n i = count - i
 
 cursor-at-requires : tie.Need-cursor-at-requires Inv-loop μ-loop
 cursor-at-requires c κs = let st = c .before .before .before .before .before .before .before .before .before .before in (st .pre .0 .0, rw (st .pre .0 .1) (omega arith))
@@ -19,8 +18,7 @@ cursor-at-requires c κs = let st = c .before .before .before .before .before .b
 loop-holds : tie.Need-loop-holds Inv-loop μ-loop
 loop-holds c =
     let st = c .before .before .before .before .before .before .before .before .before .before .before in
-    let e = st .pre .0 .1 in
-    let (m, g, z, p, v, t, k) = st .pre .1 in
+    let e = st .pre .0 .1 in let (m, g, z, p, v, t, k) = st .pre .1 in
     reached-none (now (st .args .s)) _ _ _ _ _ (st .pre .0 .0) (ap (λ (h : SheetHead). h .platforms) e) (ap (λ (h : SheetHead). h .initializations) e) (c .cursor-at .ensures)
     (record { mask = (refl, m); gpa = (refl, g); size = (refl, z); vp = (refl, p); vtl = (refl, v); table = (refl, t); number = (refl, k) })
     refl
@@ -47,9 +45,7 @@ loop-less c = let l = c .before .before .before .before .before .loop-test .take
 
 loop-again : tie.Need-loop-again Inv-loop μ-loop
 loop-again c =
-    let q = c .before .before .before in
-    let t = q .before .before in
-    let f = q .region-of .result in
+    let q = c .before .before .before in let t = q .before .before in let f = q .region-of .result in
     reached-next (t .before .loop .inv) _ _ (f .found) (f .region) (t .loop-test .taken) (q .before .initialization-at .ensures .0) (q .region-of .ensures) (q .before .initialization-at .ensures .1)
 
 pub keep-regions-spec : {M : Type 1} → statement M

@@ -14,14 +14,12 @@ abbrev μ-loop : tie.MeasureT-loop
 
 new-requires : tie.Need-new-requires Inv-loop μ-loop
 new-requires c κs =
-    let st = c .before .before .before .before .before in
-    let b = readable-bounds (now (st .args .s)) (st .pre .0) in
+    let st = c .before .before .before .before .before in let b = readable-bounds (now (st .args .s)) (st .pre .0) in
     rw (c .rows .ensures, st .pre .1) (omega arith)
 
 loop-holds : tie.Need-loop-holds Inv-loop μ-loop
 loop-holds c =
-    let st = c .before .before .before .before .before .before .before in
-    let s = now (st .args .s) in
+    let st = c .before .before .before .before .before .before .before in let s = now (st .args .s) in
     record {
       readable = st .pre .0;
       rows = rw (st .pre .1);
@@ -63,5 +61,5 @@ pub validate-platform-headers-spec : {M : Type 1} → statement M
 validate-platform-headers-spec =
     tie.close (tie.spec Inv-loop μ-loop (λ c. search needs) (λ c κs. search needs) (λ c κs. search needs) (λ c κs. search needs)
     new-requires (λ c κs. search needs) loop-holds (λ c κs. platform-known (c .before .loop .inv) (c .loop-test .taken)) step-requires
-    (λ c κs. search needs) (λ c. search needs) (λ c κs. search needs) returns (λ c. search needs) (λ c. search needs)
-    loop-again (λ c κs. search needs) (λ c κs. search needs) returns-2)
+    (λ c κs. search needs) (λ c. search needs) (λ c κs. search needs) returns (λ c. search needs) (λ c. search needs) loop-again
+    (λ c κs. search needs) (λ c κs. search needs) returns-2)

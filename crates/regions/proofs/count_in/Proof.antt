@@ -28,15 +28,12 @@ loop-again c = (search needs, rw (count-more, ← c .before .before .before .bef
 
 cast-result : tie.Need-cast-result Inv-loop μ-loop
 cast-result c =
-    let a = c .before .before .before .before .args in
-    let l = c .before .loop in
+    let a = c .before .before .before .before .args in let l = c .before .loop in
     omega (arith, count-le (l .i) (ofMask (a .given) (now (a .masks)) (now (a .tables))))
 
 returns : tie.Need-returns Inv-loop μ-loop
 returns c =
-    let a = c .before .before .before .before .args in
-    let l = c .before .loop in
-    let e : l .i ≡ a .n = omega arith in
+    let a = c .before .before .before .before .args in let l = c .before .loop in let e : l .i ≡ a .n = omega arith in
     (rw e at (l .inv .1), omega (arith, count-le (l .i) (ofMask (a .given) (now (a .masks)) (now (a .tables)))))
 
 pub count-in-spec : {M : Type 1} → statement M

@@ -9,9 +9,7 @@ returns c = let a = c .before .before .args in rw (eq-eqb (a .t) (a .end) (c .if
 
 initialization-at-requires : tie.Need-initialization-at-requires
 initialization-at-requires c κs =
-    let st = c .before .before .before in
-    let (ok, low, high, last) = st .pre in
-    let other = c .before .if1 .left in
+    let st = c .before .before .before in let (ok, low, high, last) = st .pre in let other = c .before .if1 .left in
     rw (c .cursor-at .ensures)
     (at-row limits (now (st .args .s)) ok (st .args .t) (omega arith), initialization-row limits (now (st .args .s)) ok (st .args .t) low (omega arith))
 

@@ -2,14 +2,12 @@
 use Rattle.rows.proofs.Kit.{sym, arith, needs, ne-eqb, now}
 use Rattle.igvm_defs.specs.Kinds.{kindOf, spans}
 use Rattle.initialization_header.{specs.Initializations.initializationOf, proofs.InitializationLaws.kind-initialization}
-use Rattle.regions.proofs.HeaderLaws.{not-page-table}
-use Rattle.regions.proofs.is_table.Statement.{statement}
+use Rattle.regions.proofs.{HeaderLaws.not-page-table, is_table.Statement.statement}
 use Rattle.regions.proofs.is_table.Tie as tie
 
 returns : tie.Need-returns
 returns c =
-    let a = c .before .before .args in
-    let b = now (a .b) in
+    let a = c .before .before .args in let b = now (a .b) in
     sym (not-page-table (initializationOf (a .kind) b) (rw (kind-initialization (a .kind) (c .before .before .pre .0) b) (ne-eqb (a .kind) 19 (c .if1 .taken))) .0 (a .given))
 
 u32-at-requires : tie.Need-u32-at-requires

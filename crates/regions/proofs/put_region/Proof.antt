@@ -17,8 +17,7 @@ kind-known c =
 words-of-requires : tie.Need-words-of-requires
 unfolding kindOf spans
 words-of-requires c κs =
-    let st = c .before .before .before .before .before in
-    let e = kind-known (c .before) in
+    let st = c .before .before .before .before .before in let e = kind-known (c .before) in
     let (vtl, flags) = codes-18 (now (st .args .b)) (rw e at (st .pre .0 .2)) in
     (rw e at (st .pre .0 .1), flags, vtl)
 
@@ -36,9 +35,7 @@ returns c =
     (rw (← m, t), rw (← m, t, e) (c .before .before .put-words .ensures))
 
 returns-2 : tie.Need-returns-2
-returns-2 c =
-    let m = c .before .is-region .ensures in
-    (rw (← m, c .if1 .left) (sym (add-zero _)), rw (← m, c .if1 .left))
+returns-2 c = let m = c .before .is-region .ensures in (rw (← m, c .if1 .left) (sym (add-zero _)), rw (← m, c .if1 .left))
 
 pub put-region-spec : {M : Type 1} → statement M
 put-region-spec =

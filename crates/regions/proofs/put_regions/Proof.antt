@@ -31,8 +31,7 @@ put-region-requires : tie.Need-put-region-requires Inv-loop μ-loop
 put-region-requires c κs =
     let turn = c .before .before .before .before in
     let st = c .before .before .before .before .before .before .before .before .before .before .before .before in
-    let k = known turn in
-    let w = turn .before .before .loop .inv in
+    let k = known turn in let w = turn .before .before .loop .inv in
     rw (c .before .before .before .cursor-row .ensures .0, c .before .before .cursor-body .ensures) (
       (k .listed .1, k .least, k .codes, walk-few w (st .args .head) (st .pre .1) refl (st .pre .0) (turn .if1 .taken)),
       walk-room w (st .args .head) (st .pre .1) refl (st .pre .0) (turn .if1 .taken) (st .pre .2),
@@ -67,5 +66,5 @@ returns c =
 pub put-regions-spec : {M : Type 1} → statement M
 put-regions-spec =
     tie.close (tie.spec Inv-loop μ-loop (λ c. search needs) (λ c. search needs) (λ c. search needs) cursor-at-requires loop-holds
-    (λ c κs. known c .listed .0) (λ c κs. known (c .before) .listed .0) table-row-requires
-    put-region-requires loop-less loop-again found-table-requires (λ c. lent-length (c .before .before .before .loop .inv)) returns)
+    (λ c κs. known c .listed .0) (λ c κs. known (c .before) .listed .0) table-row-requires put-region-requires loop-less loop-again
+    found-table-requires (λ c. lent-length (c .before .before .before .loop .inv)) returns)

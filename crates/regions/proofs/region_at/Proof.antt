@@ -19,8 +19,7 @@ abbrev μ-loop : tie.MeasureT-loop
 known : (c : tie.In-loop Inv-loop μ-loop)
     → Turn (now (c .before .before .before .before .before .before .args .s)) (c .before .loop .c) (c .before .loop .i)
 known c =
-    let st = c .before .before .before .before .before .before in
-    let l = c .before .loop in
+    let st = c .before .before .before .before .before .before in let l = c .before .loop in
     turn-at (now (st .args .s)) (st .args .head) (st .pre .1) (st .pre .0) (l .c) (l .i) (l .inv .1) (c .loop-test .taken)
 
 cursor-at-requires : tie.Need-cursor-at-requires Inv-loop μ-loop
@@ -42,8 +41,7 @@ add-i c = let t = known (c .before .before .before .before .before) in omega ari
 loop-again : tie.Need-loop-again Inv-loop μ-loop
 loop-again c =
     let a = c .before .before .before .before .before .before .before .before .before .before .before .args in
-    let xs = sheetInitializations (now (a .s)) in
-    let l = c .before .before .before .before .before .before .loop in
+    let xs = sheetInitializations (now (a .s)) in let l = c .before .before .before .before .before .before .loop in
     let t = known (c .before .before .before .before .before) in
     let row = c .before .before .before .before .initialization-at .ensures in
     let h = row .0 ∙ t .header in (
@@ -55,12 +53,10 @@ loop-again c =
 
 returns : tie.Need-returns Inv-loop μ-loop
 returns c =
-    let st = c .before .before .before .before .before .before in
-    let l = c .before .loop in
+    let st = c .before .before .before .before .before .before in let l = c .before .loop in
     rw (all-rows (now (st .args .s)) (st .args .head) (st .pre .1) (l .i) (omega arith)) at (l .inv .3)
 
 pub region-at-spec : {M : Type 1} → statement M
 region-at-spec =
-    tie.close (tie.spec Inv-loop μ-loop (λ c. search needs) (λ c. search needs) cursor-at-requires loop-holds
-    (λ c κs. known c .listed) (λ c κs. search needs) (λ c κs. search needs) (λ c κs. search needs) add-seen
-    add-i (λ c. search needs) loop-again returns)
+    tie.close (tie.spec Inv-loop μ-loop (λ c. search needs) (λ c. search needs) cursor-at-requires loop-holds (λ c κs. known c .listed)
+    (λ c κs. search needs) (λ c κs. search needs) (λ c κs. search needs) add-seen add-i (λ c. search needs) loop-again returns)

@@ -5,8 +5,7 @@ use Rattle.regions.proofs.words_of.Tie as tie
 
 returns : tie.Need-returns
 returns c =
-    let gpa = c .before .before .before .before .before .before .before in
-    let st = gpa .before .before in
+    let gpa = c .before .before .before .before .before .before .before in let st = gpa .before .before in
     rw (
       gpa .u64-at .ensures,
       c .before .before .before .before .before .before .u64-at2 .ensures,

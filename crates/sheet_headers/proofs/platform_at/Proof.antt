@@ -5,8 +5,7 @@ use Rattle.sheet_headers.proofs.platform_at.Tie as tie
 
 decode-requires : tie.Need-decode-requires
 decode-requires c κs =
-    let k = c .before .before .cursor-row .ensures .0 in
-    let pre = c .before .before .before .before .pre in
+    let k = c .before .before .cursor-row .ensures .0 in let pre = c .before .before .before .before .pre in
     (rw k (pre .1), rw (k, c .cursor-body .ensures) (body-least _ _ (pre .0)))
 
 returns : tie.Need-returns

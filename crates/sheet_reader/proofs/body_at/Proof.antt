@@ -1,5 +1,5 @@
-use Rattle.rows.proofs.Kit.{_≡_, sym, _∙_, true, arith, now, needs, not-true, not-false}
-use Rattle.sheet_reader.specs.Reading.{inSheet, readAt, bodyAt}
+use Rattle.rows.proofs.Kit.{arith, now, needs, not-true, not-false}
+use Rattle.sheet_reader.specs.Reading.{readAt, bodyAt}
 use Rattle.sheet_reader.proofs.{ReaderLaws.{Found, found-past}, body_at.Statement.statement}
 use Rattle.sheet_reader.proofs.body_at.Tie as tie
 
@@ -9,12 +9,7 @@ there c = found-past _ _ _ (c .before .in-sheet .ensures) (c .if1 .left)
 
 returns : tie.Need-returns
 unfolding bodyAt
-returns c =
-    let i = c .before .before .in-sheet in
-    rw (← i .ensures, not-true (i .result) (c .before .if1 .taken))
-
-row-from-requires : tie.Need-row-from-requires
-row-from-requires c κs = let t = there c in (t .table, omega arith)
+returns c = let i = c .before .before .in-sheet in rw (← i .ensures, not-true (i .result) (c .before .if1 .taken))
 
 returns-2 : tie.Need-returns-2
 unfolding bodyAt
@@ -24,5 +19,5 @@ returns-2 c =
 
 pub body-at-spec : {M : Type 1} → statement M
 body-at-spec =
-    tie.close (tie.spec (λ c κs. search needs) (λ c. search needs) (λ c. search needs) (λ c. search needs) returns row-from-requires
-    (λ c κs. rw (c .row-from .ensures) (there (c .before) .room)) returns-2)
+    tie.close (tie.spec (λ c κs. search needs) (λ c. search needs) (λ c. search needs) (λ c. search needs) returns
+    (λ c κs. let t = there c in (t .table, omega arith)) (λ c κs. rw (c .row-from .ensures) (there (c .before) .room)) returns-2)

@@ -10,14 +10,11 @@ abbrev μ-loop : tie.MeasureT-loop
 μ-loop s k c₀ i₀ c i = k - i
 
 new-requires : tie.Need-new-requires Inv-loop μ-loop
-new-requires c κs =
-    let b = readable-bounds (now (c .before .args .s)) (c .before .pre .0) in
-    omega arith
+new-requires c κs = let b = readable-bounds (now (c .before .args .s)) (c .before .pre .0) in omega arith
 
 new-requires-2 : tie.Need-new-requires-2 Inv-loop μ-loop
 new-requires-2 c κs =
-    let st = c .before .before .before in
-    let b = readable-bounds (now (st .args .s)) (st .pre .0) in
+    let st = c .before .before .before in let b = readable-bounds (now (st .args .s)) (st .pre .0) in
     rw (c .rows .ensures, c .before .new .ensures) (omega arith)
 
 loop-holds : tie.Need-loop-holds Inv-loop μ-loop
@@ -27,14 +24,11 @@ loop-holds c =
 
 cursor-row-requires : tie.Need-cursor-row-requires Inv-loop μ-loop
 cursor-row-requires c κs =
-    let l = c .before .loop in
-    let st = c .before .before .before .before .before .before in
+    let l = c .before .loop in let st = c .before .before .before .before .before .before in
     rw (l .inv .1) (at-row limits (now (st .args .s)) (st .pre .0) (l .i) (omega arith))
 
 loop-again : tie.Need-loop-again Inv-loop μ-loop
-loop-again c =
-    let l = c .before .before .before .loop in
-    (omega arith, rw (c .before .cursor-row .ensures .1, l .inv .1))
+loop-again c = let l = c .before .before .before .loop in (omega arith, rw (c .before .cursor-row .ensures .1, l .inv .1))
 
 returns : tie.Need-returns Inv-loop μ-loop
 returns c =
@@ -44,5 +38,5 @@ returns c =
 
 pub cursor-at-spec : {M : Type 1} → statement M
 cursor-at-spec =
-    tie.close (tie.spec Inv-loop μ-loop new-requires (λ c κs. search needs) new-requires-2 loop-holds cursor-row-requires (λ c. search needs)
-    (λ c. search needs) loop-again returns)
+    tie.close (tie.spec Inv-loop μ-loop new-requires (λ c κs. search needs) new-requires-2 loop-holds cursor-row-requires
+    (λ c. search needs) (λ c. search needs) loop-again returns)

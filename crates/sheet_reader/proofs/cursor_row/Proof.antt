@@ -1,5 +1,4 @@
-use Rattle.rows.proofs.Kit.{ap, needs, now}
-use Rattle.sheet.specs.declared.Cursor.{Cursor}
+use Rattle.rows.proofs.Kit.{needs, now}
 use Rattle.sheet_reader.proofs.{ReaderLaws.{kind-at-cursor, place-after-cursor}, cursor_row.Statement.statement}
 use Rattle.sheet_reader.proofs.cursor_row.Tie as tie
 

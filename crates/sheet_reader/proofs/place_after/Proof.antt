@@ -11,9 +11,6 @@ returns : tie.Need-returns
 unfolding placeAfter
 returns c = rw (← c .before .in-sheet .ensures, not-true (c .before .in-sheet .result) (c .if1 .taken))
 
-row-from-requires : tie.Need-row-from-requires
-row-from-requires c κs = let t = there c in (t .table, omega arith)
-
 after-requires : tie.Need-after-requires
 after-requires c κs = let t = there (c .before) in rw (c .row-from .ensures) (omega arith, omega arith)
 
@@ -24,4 +21,5 @@ returns-2 c =
     rw (← e .before .in-sheet .ensures, not-false (e .before .in-sheet .result) (e .if1 .left), ← there e .size, ← c .before .row-from .ensures) (c .after .ensures)
 
 pub place-after-spec : {M : Type 1} → statement M
-place-after-spec = tie.close (tie.spec (λ c κs. search needs) returns row-from-requires after-requires returns-2)
+place-after-spec =
+    tie.close (tie.spec (λ c κs. search needs) returns (λ c κs. let t = there c in (t .table, omega arith)) after-requires returns-2)

@@ -7,17 +7,13 @@ use Rattle.sheet_reader.proofs.row_from.Tie as tie
 returns : tie.Need-returns
 unfolding inSheet readAt
 returns c =
-    let st = c .before .before .before .before in
-    let a = st .args in
-    let e = c .before .before .length-at .ensures .0 in
+    let st = c .before .before .before .before in let a = st .args in let e = c .before .before .length-at .ensures .0 in
     rw (le-leb (24 + 8 * a .c .row) (length (now (a .s))) (st .pre .0), lt-leb (a .c .at + rowLength (now (a .s)) (a .c .row)) (length (now (a .s))) (omega arith))
 
 returns-2 : tie.Need-returns-2
 unfolding inSheet readAt
 returns-2 c =
-    let st = c .before .before .before .before .before in
-    let a = st .args in
-    let e = c .before .before .before .length-at .ensures .0 in
+    let st = c .before .before .before .before .before in let a = st .args in let e = c .before .before .before .length-at .ensures .0 in
     rw (le-leb (24 + 8 * a .c .row) (length (now (a .s))) (st .pre .0), le-leb (a .c .at + rowLength (now (a .s)) (a .c .row)) (length (now (a .s))) (omega arith), c .kind-at .ensures, e)
 
 pub row-from-spec : {M : Type 1} → statement M

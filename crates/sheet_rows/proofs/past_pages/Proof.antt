@@ -1,5 +1,5 @@
-use Rattle.rows.proofs.Kit.{_≡_, ap, _≤_, _-_, _+_, _*_, arith, length, needs, now}
-use Rattle.sheet.{specs.declared.SheetHead.SheetHead, specs.Head.{headOf, rowCount}, specs.Walk.ReadTo}
+use Rattle.rows.proofs.Kit.{_≤_, _-_, arith, needs, now}
+use Rattle.sheet.specs.Walk.{ReadTo}
 use Rattle.sheet_reader.proofs.ReaderLaws.{Found, kind-found, read-after}
 use Rattle.sheet_rows.proofs.{RowLaws.page-reads, past_pages.Statement.statement}
 use Rattle.sheet_rows.proofs.past_pages.Tie as tie
@@ -18,9 +18,6 @@ row-from-requires : tie.Need-row-from-requires Inv-loop μ-loop
 row-from-requires c κs =
     let n = c .before .before .before .before .before .before .before .rows .ensures in
     (omega arith, c .before .before .loop .inv .0 .room)
-
-after-requires : tie.Need-after-requires Inv-loop μ-loop
-after-requires c κs = let f = page (c .before .before) in (omega arith, omega arith)
 
 loop-less : tie.Need-loop-less Inv-loop μ-loop
 loop-less c = rw (c .after .ensures) (let l = c .before .before .before .before .before .before .if2 .taken in omega arith)
@@ -44,6 +41,5 @@ past-pages-spec =
     tie.close (tie.spec Inv-loop μ-loop (λ c κs. search needs) (λ c. search needs) (λ c. search needs) (λ c. search needs)
     (λ c. (c .before .before .before .before .before .before .pre .2, omega arith))
     (λ c. (c .before .before .before .before .before .before .pre .2, omega arith)) row-from-requires
-    (λ c. c .before .before .before .before .before .loop .inv)
-    (λ c. c .before .before .before .before .before .before .before .loop .inv) after-requires loop-less loop-again
-    (λ c. c .before .before .loop .inv))
+    (λ c. c .before .before .before .before .before .loop .inv) (λ c. c .before .before .before .before .before .before .before .loop .inv)
+    (λ c κs. let f = page (c .before .before) in (omega arith, omega arith)) loop-less loop-again (λ c. c .before .before .loop .inv))

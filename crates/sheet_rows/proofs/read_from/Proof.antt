@@ -1,4 +1,4 @@
-use Rattle.rows.proofs.Kit.{_≡_, ap, _∙_, true, false, _-_, _<_, _≤_, _+_, arith, length, needs, now}
+use Rattle.rows.proofs.Kit.{_≡_, ap, _∙_, true, _-_, _<_, arith, needs, now}
 use Rattle.igvm_defs.{specs.Kinds.kindOf, specs.Refusals.isFault}
 use Rattle.sheet.{specs.declared.Cursor.Cursor, specs.Head.{headOf, rowCount}, specs.Read.{rowFault, endFault}, specs.Table.offsetOf, specs.Walk.ReadTo, proofs.ReadLaws.rows-end, proofs.Readable.{RowOk, row-says}}
 use Rattle.sheet_reader.{specs.Reading.readAt, proofs.ReaderLaws.{Found, room-found, read-after}}
@@ -27,8 +27,7 @@ there c =
 
 row-fault-requires : tie.Need-row-fault-requires Inv-loop μ-loop
 row-fault-requires c κs =
-    let l = c .before .before .before .before .before .loop in
-    let i = c .before .kind-index in
+    let l = c .before .before .before .before .before .loop in let i = c .before .kind-index in
     let t = c .before .before .before .before .before .before .before .kinds .ensures (i .result) (i .ensures .0) ∙ i .ensures .1 ∙ ap kindOf (c .before .before .kind-at .ensures) in
     ((c .before .before .before .before .before .before .before .before .before .pre .0, omega arith, ap (λ (x : Cursor). x .at) (l .inv .at), l .inv .room), t)
 
@@ -65,8 +64,7 @@ unfolding endFault
 returns-2 c =
     let l = c .before .before .before .before .before .loop in
     let st = c .before .before .before .before .before .before .before .before .before in
-    let s = now (st .args .s) in
-    let high = rw (← st .pre .0) at (l .inv .high) in
+    let s = now (st .args .s) in let high = rw (← st .pre .0) at (l .inv .high) in
     let k : l .c .row ≡ rowCount (headOf s) = rw (← st .pre .0) (omega arith) in
     let o : l .c .at ≡ offsetOf s (l .c .row) = ap (λ (x : Cursor). x .at) (l .inv .at) in
     rw (rows-end s (rw k at (l .inv .passed)), c .in-row2 .ensures, c .before .refuse .ensures, o, k)

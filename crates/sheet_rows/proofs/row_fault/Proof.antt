@@ -34,8 +34,7 @@ unfolding rowFault
 returns-3 c =
     let b = c .before .before in
     let a = b .before .before .before .before .before .before .before .args in
-    let s = now (a .s) in
-    let n = b .before .before .before .before .length-at .ensures .0 in
+    let s = now (a .s) in let n = b .before .before .before .before .length-at .ensures .0 in
     rw (
       list-test (b .before .before .before),
       eq-eqb _ _ (b .before .if1 .left),
@@ -46,20 +45,15 @@ returns-3 c =
 
 codes-ok-requires : tie.Need-codes-ok-requires
 codes-ok-requires c κs =
-    let e = c .before .before in
-    let n = e .before .before .before .before .before in
-    let st = n .before .before .before in
+    let e = c .before .before in let n = e .before .before .before .before .before in let st = n .before .before .before in
     let least = length-least (st .args .t) (n .length-at .result) (sym (e .before .length-ok .ensures) ∙ long e) in
     rw (c .part .ensures, n .before .kind-at .ensures, ← st .pre .1) (simp (length-take, length-drop) (omega arith))
 
 returns-4 : tie.Need-returns-4
 unfolding rowFault bodyOf
 returns-4 c =
-    let e = c .before .before .before .before in
-    let b = e .before in
-    let st = b .before .before .before .before .before .before .before in
-    let s = now (st .args .s) in
-    let n = b .before .before .before .before .length-at .ensures .0 in
+    let e = c .before .before .before .before in let b = e .before in let st = b .before .before .before .before .before .before .before in
+    let s = now (st .args .s) in let n = b .before .before .before .before .length-at .ensures .0 in
     rw (
       list-test (b .before .before .before),
       eq-eqb _ _ (b .before .if1 .left),

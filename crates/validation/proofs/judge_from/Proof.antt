@@ -9,35 +9,20 @@ use Rattle.validation.proofs.judge_from.Tie as tie
 none : (c : tie.Else1) → isRefusal (verdictRefusal limits (now (c .before .before .before .before .before .before .before .before .before .before .before .before .before .before .args .s))) ≡ false
 none c = rw (← c .before .before .before .validate-from .ensures .told, ← c .before .is-refusal .ensures) (c .if1 .left)
 
--- src/lib.rt:121:9
 validate-from-requires : tie.Need-validate-from-requires
 validate-from-requires c κs = let p = c .before .before .before .before .before .before .before .before .before .before .pre .0 in (p .0, p .1, p .2, rw (c .kept-contexts .ensures) (p .3))
 
--- src/lib.rt:123:8
--- src/lib.rt:125:22
--- src/lib.rt:124:9
 returns : tie.Need-returns
 returns c =
     let told = c .before .before .before .before .validate-from .ensures .told in
     let t : isRefusal (c .before .before .before .before .validate-from .result .refusal) ≡ true = sym (c .before .before .is-refusal .ensures) ∙ c .before .if1 .taken in
     (c .refused .ensures ∙ sym (refused limits _ _ (sym told) t), λ f. not-both f (rw told at t))
 
--- src/lib.rt:130:5
--- src/lib.rt:131:9
 keep-regions-requires : tie.Need-keep-regions-requires
 keep-regions-requires c κs =
     let n = none (c .before .before .before .before .before .before .before .before .before .before) in
     ((sheet-says limits _ .0 (verdict-parts limits _ n .0) .0, c .before .before .before .before .before .before .before .before .before .before .before .before .before .before .before .before .before .before .before .before .before .before .before .before .pre .0 .1), c .before .before .before .before .before .before .before .before .before .before .before .before .before .before .before .before .before .before .before .before .before .before .before .before .pre .1)
 
--- src/lib.rt:133:18
--- src/lib.rt:103:1
--- src/lib.rt:103:1
--- src/lib.rt:103:1
--- src/lib.rt:103:1
--- src/lib.rt:103:1
--- src/lib.rt:103:1
--- src/lib.rt:103:1
--- src/lib.rt:103:1
 returns-2 : tie.Need-returns-2
 returns-2 c =
     let n = none (c .before .before .before .before .before .before .before .before .before .before .before .before .before .before .before .before .before .before .before .before .before .before .before .before .before .before) in

@@ -12,9 +12,7 @@ cursor-at-requires c κs = let st = c .before .before .before .before .before in
 returns : tie.Need-returns
 unfolding anyBelow
 returns c =
-    let st = c .before .before .before .before .before .before in
-    let s = now (st .args .s) in
-    let e = c .cursor-at .ensures in
+    let st = c .before .before .before .before .before .before in let s = now (st .args .s) in let e = c .cursor-at .ensures in
     let first : st .args .head .platforms + st .args .head .initializations ≡ firstDirective s = ap (λ (h : SheetHead). h .platforms + h .initializations) (st .pre .1) in
     let row : c .cursor-at .result .row ≡ firstDirective s = ap (λ (x : Cursor). x .row) e ∙ first in
     let z : c .cursor-at .result .row - firstDirective s ≡ 0 = omega arith in
@@ -24,8 +22,7 @@ returns-2 : tie.Need-returns-2
 returns-2 c =
     let st = c .before .before .before .before .before in
     let first : st .args .head .platforms + st .args .head .initializations ≡ firstDirective (now (st .args .s)) = ap (λ (h : SheetHead). h .platforms + h .initializations) (st .pre .1) in
-    let l = c .if1 .left in
-    let a = st .pre .3 (omega arith) in
+    let l = c .if1 .left in let a = st .pre .3 (omega arith) in
     ((a .read .at, a .low, a .read .high), (a .good, a .holds))
 
 pub start-of-spec : {M : Type 1} → statement M

@@ -10,26 +10,15 @@ rows-passed c = rw (← c .before .before .read-from .ensures, ← c .before .is
 size-passed : (c : tie.Else2) → isRefusal (inRow 0 (pageSizeFault (headOf (now (c .before .before .before .before .before .before .before .before .args .s))))) ≡ false
 size-passed c = rw (← c .before .before .before .before .before .before .before .before .pre .1, ← c .before .before .before .page-size-fault .ensures, ← c .before .before .in-row .ensures, ← c .before .is-refusal2 .ensures) (c .if2 .left)
 
--- src/lib.rt:77:9
 read-from-requires : tie.Need-read-from-requires
-read-from-requires c κs =
-    let p = c .before .pre in
-    (p .1, rw (p .1) (start-says limits _ .0 (p .0) .table), p .2)
+read-from-requires c κs = let p = c .before .pre in (p .1, rw (p .1) (start-says limits _ .0 (p .0) .table), p .2)
 
--- src/lib.rt:78:8
--- src/lib.rt:79:9
--- src/lib.rt:79:9
 returns : tie.Need-returns
 returns c =
     let told = c .before .before .before .read-from .ensures in
     let t : isRefusal (c .before .before .before .read-from .result) ≡ true = sym (c .before .before .is-refusal .ensures) ∙ c .before .if1 .taken in
     record { told = rw (c .no-contexts .ensures, told) (sym (verdict-rows limits _ (c .before .before .before .before .before .pre .0) (rw told at t))); holds = λ f. not-both (rw (c .no-contexts .ensures) at f) t }
 
--- src/lib.rt:81:16
--- src/lib.rt:81:9
--- src/lib.rt:82:8
--- src/lib.rt:83:9
--- src/lib.rt:83:9
 returns-2 : tie.Need-returns-2
 returns-2 c =
     let st = c .before .before .before .before .before .before .before .before .before in
@@ -37,11 +26,9 @@ returns-2 c =
     let t : isRefusal (c .before .before .before .in-row .result) ≡ true = sym (c .before .before .is-refusal2 .ensures) ∙ c .before .if2 .taken in
     record { told = rw (c .no-contexts2 .ensures, told) (sym (verdict-size limits _ (st .pre .0) (rows-passed (c .before .before .before .before .before)) (rw told at t))); holds = λ f. not-both (rw (c .no-contexts2 .ensures) at f) t }
 
--- src/lib.rt:85:5
 validate-headers-requires : tie.Need-validate-headers-requires
 validate-headers-requires c κs = (sheet-none limits _ (c .before .before .before .before .before .before .before .before .pre .0) (rows-passed (c .before .before .before .before)) (size-passed c), c .before .before .before .before .before .before .before .before .pre .1, c .before .before .before .before .before .before .before .before .pre .2, c .before .before .before .before .before .before .before .before .pre .3)
 
--- src/lib.rt:73:1
 returns-3 : tie.Need-returns-3
 returns-3 c =
     let h = c .validate-headers .ensures in

@@ -15,10 +15,6 @@ platforms-passed c = rw (← c .before .before .before .validate-platform-header
 initializations-passed : (c : tie.Else2) → isRefusal (initializationsRefusal (sheetHeaders (now (c .before .before .before .before .before .before .before .before .before .args .s)))) ≡ false
 initializations-passed c = rw (← c .before .before .before .validate-initialization-headers .ensures .told, ← c .before .is-refusal2 .ensures) (c .if2 .left)
 
--- src/lib.rt:59:9
--- src/lib.rt:61:8
--- src/lib.rt:62:9
--- src/lib.rt:62:9
 returns : tie.Need-returns
 returns c =
     let told = c .before .before .before .before .validate-platform-headers .ensures .told in
@@ -26,15 +22,11 @@ returns c =
     let e : isRefusal (platformsRefusal (sheetHeaders (now (c .before .before .before .before .before .before .args .s)))) ≡ true = rw (← told) t in
     record { told = rw (c .no-contexts .ensures, told) (sym (headers-platforms _ e)); holds = λ f. not-both (rw (c .no-contexts .ensures) at f) t }
 
--- src/lib.rt:64:9
 validate-initialization-headers-requires : tie.Need-validate-initialization-headers-requires
 validate-initialization-headers-requires c κs =
     let holds = c .before .before .before .validate-platform-headers .ensures .holds (rw (← c .before .is-refusal .ensures) (c .if1 .left)) in
     (readable (c .before .before .before .before), c .before .before .before .before .before .pre .1, holds)
 
--- src/lib.rt:66:8
--- src/lib.rt:67:9
--- src/lib.rt:67:9
 returns-2 : tie.Need-returns-2
 returns-2 c =
     let told = c .before .before .before .before .validate-initialization-headers .ensures .told in
@@ -54,8 +46,7 @@ validate-directive-headers-requires c κs =
 
 returns-3 : tie.Need-returns-3
 returns-3 c =
-    let d = c .validate-directive-headers .ensures in
-    let e = c .before .before .before in
+    let d = c .validate-directive-headers .ensures in let e = c .before .before .before in
     record { told = d .told ∙ sym (headers-directives _ (platforms-passed (e .before .before .before .before)) (initializations-passed e)); holds = d .holds }
 
 pub validate-headers-spec : {M : Type 1} → statement M
