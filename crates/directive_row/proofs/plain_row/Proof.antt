@@ -41,18 +41,12 @@ returns-8 : tie.Need-returns-8
 returns-8 c = (λ arch x e. range-plain arch _ _ _ (c .before .match .keys8) (c .error-range .ensures arch e), (λ e. refl, c .before .before .before .pre))
 
 -- src/lib.rt:105:1
-returns-9 : tie.Need-returns-9
-returns-9 c = (λ arch x e. block-plain arch _ _ _ (c .match .keys9) e, (λ e. refl, c .before .before .pre))
-
 -- src/lib.rt:105:1
-returns-10 : tie.Need-returns-10
-returns-10 c = (λ arch x e. measurement-plain arch _ _ _ (c .match .keys10) e, (λ e. refl, c .before .before .pre))
-
 -- src/lib.rt:105:1
-returns-11 : tie.Need-returns-11
-returns-11 c = (λ arch x e. absurd (false≢true e), (λ e. refl, c .before .before .pre))
-
 pub plain-row-spec : {M : Type 1} → statement M
 plain-row-spec =
     tie.close (tie.spec (λ c κs. search needs) (λ c κs. search needs) (λ c κs. search needs) (λ c κs. search needs) (λ c κs. search needs)
-    (λ c κs. search needs) returns returns-2 returns-3 returns-4 returns-5 returns-6 returns-7 returns-8 returns-9 returns-10 returns-11)
+    (λ c κs. search needs) returns returns-2 returns-3 returns-4 returns-5 returns-6 returns-7 returns-8
+    (λ c. (λ arch x e. block-plain arch _ _ _ (c .match .keys9) e, (λ e. refl, c .before .before .pre)))
+    (λ c. (λ arch x e. measurement-plain arch _ _ _ (c .match .keys10) e, (λ e. refl, c .before .before .pre)))
+    (λ c. (λ arch x e. absurd (false≢true e), (λ e. refl, c .before .before .pre))))
