@@ -9,9 +9,6 @@ Inv-loop r masks gpas sizes n i₀ found₀ i found = (i ≤ n) × (found ≡ an
 abbrev μ-loop : tie.MeasureT-loop
 μ-loop r masks gpas sizes n i₀ found₀ i found = n - i
 
-loop-again : tie.Need-loop-again Inv-loop μ-loop
-loop-again c = (search needs, rw (any-more, ← c .before .before .before .before .before .loop .inv .1, ← c .overlaps .ensures))
-
 returns : tie.Need-returns Inv-loop μ-loop
 returns c =
     let e : c .before .loop .i ≡ c .before .before .before .before .before .args .n = omega arith in
@@ -21,5 +18,5 @@ pub any-overlap-spec : {M : Type 1} → statement M
 unfolding anyBelow
 any-overlap-spec =
     tie.close (tie.spec Inv-loop μ-loop (λ c. (search needs, refl)) (λ c. search needs) (λ c. search needs) (λ c. search needs)
-    (λ c. search needs) (λ c. search needs) (λ c. search needs) (λ c κs. search needs) (λ c. search needs) (λ c. search needs) loop-again
-    returns)
+    (λ c. search needs) (λ c. search needs) (λ c. search needs) (λ c κs. search needs) (λ c. search needs) (λ c. search needs)
+    (λ c. (search needs, rw (any-more, ← c .before .before .before .before .before .loop .inv .1, ← c .overlaps .ensures))) returns)

@@ -9,20 +9,6 @@ Inv-loop masks vps vtls n contexts i₀ found₀ i found = (i ≤ n) × (found �
 abbrev μ-loop : tie.MeasureT-loop
 μ-loop masks vps vtls n contexts i₀ found₀ i found = n - i
 
--- src/lib.rt:540:5
--- src/lib.rt:541:41
--- src/lib.rt:541:41
--- src/lib.rt:541:51
--- src/lib.rt:541:51
--- src/lib.rt:541:59
--- src/lib.rt:541:25
--- src/lib.rt:542:9
--- src/lib.rt:540:5
--- src/lib.rt:540:5
-loop-again : tie.Need-loop-again Inv-loop μ-loop
-loop-again c = (search needs, rw (any-more, ← c .before .before .before .before .before .loop .inv .1, ← c .lacks .ensures))
-
--- src/lib.rt:528:1
 returns : tie.Need-returns Inv-loop μ-loop
 returns c =
     let e : c .before .loop .i ≡ c .before .before .before .before .before .args .n = omega arith in
@@ -33,4 +19,5 @@ unfolding anyBelow
 any-lacks-spec =
     tie.close (tie.spec Inv-loop μ-loop (λ c. (search needs, refl)) (λ c. search needs) (λ c. search needs) (λ c. search needs)
     (λ c. search needs) (λ c. search needs) (λ c κs. c .before .before .before .before .before .before .before .before .pre .3)
-    (λ c. search needs) (λ c. search needs) loop-again returns)
+    (λ c. search needs) (λ c. search needs)
+    (λ c. (search needs, rw (any-more, ← c .before .before .before .before .before .loop .inv .1, ← c .lacks .ensures))) returns)

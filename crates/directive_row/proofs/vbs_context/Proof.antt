@@ -2,17 +2,6 @@ use Rattle.rows.proofs.Kit.{length-set, not-false, arith, false≢true, true≢
 use Rattle.directive_row.proofs.{PlainLaws.vbs-more, vbs_context.Statement.statement}
 use Rattle.directive_row.proofs.vbs_context.Tie as tie
 
--- src/lib.rt:96:9
--- src/lib.rt:99:9
--- src/lib.rt:101:18
--- src/lib.rt:101:9
--- src/lib.rt:103:9
--- src/lib.rt:105:19
--- src/lib.rt:105:19
--- src/lib.rt:105:33
--- src/lib.rt:105:5
--- src/lib.rt:105:5
--- src/lib.rt:90:1
 returns-4 : tie.Need-returns-4
 returns-4 c =
     let n = c .before .before .before .before .before .before .before .before .pre in (
