@@ -25,12 +25,7 @@ module _ (arch : Arch) (b : List ℕ) where
   pub area-sound : 12 ≤ length b → onPage (leAt 8 b 0) ≡ true → length b - 12 ≤ leAt 8 b 0 → Sound arch 33 b
   unfolding kindOf spans lengthOk codesOk ownDirectiveFault directiveOf wrongContextArch isFault
   area-sound l p h =
-      record {
-        list = refl;
-        long = le-leb 12 (length b) l;
-        codes = refl;
-        own = rw (p, le-ltb (leAt 8 b 0) (length b - 12) h);
-      }
+      record { list = refl; long = le-leb 12 (length b) l; codes = refl; own = rw (p, le-ltb (leAt 8 b 0) (length b - 12) h) }
 
   pub memory-sound : length b ≡ 17 → leb (byteAt b 16) 1 ≡ true → onPage (leAt 8 b 0) ≡ true → onPage (leAt 4 b 12) ≡ true → Sound arch 44 b
   unfolding kindOf spans lengthOk codesOk ownDirectiveFault directiveOf wrongContextArch isFault

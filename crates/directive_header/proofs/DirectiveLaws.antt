@@ -14,29 +14,17 @@ unfolding directiveOf fields kindOf spans
 directive-local kind x y l n h =
     let (p, q) = directive-kind kind l in
     each (LocalAt directiveOf) 32 22 (
-    (λ x y n h. simp (le-read (fields 32) x y h, n)) ⨾
-    (λ x y n h. simp (le-read (fields 33) x y h, n)) ⨾
-    (λ x y n h. simp (le-read (fields 34) x y h)) ⨾
-    (λ x y n h. simp (le-read (fields 35) x y h)) ⨾
-    (λ x y n h. simp (le-read (fields 36) x y h)) ⨾
-    (λ x y n h. simp (le-read (fields 37) x y h)) ⨾
-    (λ x y n h. simp (le-read (fields 38) x y h)) ⨾
-    (λ x y n h. simp (le-read (fields 39) x y h)) ⨾
-    (λ x y n h. simp (le-read (fields 40) x y h)) ⨾
-    (λ x y n h. simp (le-read (fields 41) x y h)) ⨾
-    (λ x y n h. simp (le-read (fields 42) x y h)) ⨾
-    (λ x y n h. simp (le-read (fields 43) x y h)) ⨾
-    (λ x y n h. simp (le-read (fields 44) x y h, byte-read (fields 44) x y h)) ⨾
-    (λ x y n h. simp (le-read (fields 45) x y h, n)) ⨾
-    (λ x y n h. simp (le-read (fields 46) x y h, n)) ⨾
-    (λ x y n h. simp (le-read (fields 47) x y h, byte-read (fields 47) x y h, n)) ⨾
-    (λ x y n h. simp (le-read (fields 48) x y h, byte-read (fields 48) x y h, n)) ⨾
-    (λ x y n h. simp (le-read (fields 49) x y h, n)) ⨾
-    (λ x y n h. simp (le-read (fields 50) x y h)) ⨾
-    (λ x y n h. simp (le-read (fields 51) x y h)) ⨾
-    (λ x y n h. simp (le-read (fields 52) x y h, n)) ⨾
-    (λ x y n h. simp (le-read (fields 53) x y h, n)) ⨾
-    tt) kind p q x y n h
+    (λ x y n h. simp (le-read (fields 32) x y h, n)) ⨾ (λ x y n h. simp (le-read (fields 33) x y h, n)) ⨾
+    (λ x y n h. simp (le-read (fields 34) x y h)) ⨾ (λ x y n h. simp (le-read (fields 35) x y h)) ⨾
+    (λ x y n h. simp (le-read (fields 36) x y h)) ⨾ (λ x y n h. simp (le-read (fields 37) x y h)) ⨾
+    (λ x y n h. simp (le-read (fields 38) x y h)) ⨾ (λ x y n h. simp (le-read (fields 39) x y h)) ⨾
+    (λ x y n h. simp (le-read (fields 40) x y h)) ⨾ (λ x y n h. simp (le-read (fields 41) x y h)) ⨾
+    (λ x y n h. simp (le-read (fields 42) x y h)) ⨾ (λ x y n h. simp (le-read (fields 43) x y h)) ⨾
+    (λ x y n h. simp (le-read (fields 44) x y h, byte-read (fields 44) x y h)) ⨾ (λ x y n h. simp (le-read (fields 45) x y h, n)) ⨾
+    (λ x y n h. simp (le-read (fields 46) x y h, n)) ⨾ (λ x y n h. simp (le-read (fields 47) x y h, byte-read (fields 47) x y h, n)) ⨾
+    (λ x y n h. simp (le-read (fields 48) x y h, byte-read (fields 48) x y h, n)) ⨾ (λ x y n h. simp (le-read (fields 49) x y h, n)) ⨾
+    (λ x y n h. simp (le-read (fields 50) x y h)) ⨾ (λ x y n h. simp (le-read (fields 51) x y h)) ⨾
+    (λ x y n h. simp (le-read (fields 52) x y h, n)) ⨾ (λ x y n h. simp (le-read (fields 53) x y h, n)) ⨾ tt) kind p q x y n h
 
 -- decoding keeps the kind
 pub kind-directive : (kind : ℕ) → kindOf kind .list ≡ directiveList → (b : List ℕ) → kindNumber (directiveOf kind b) ≡ kind

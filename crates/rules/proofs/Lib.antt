@@ -7,3 +7,4 @@ pub mod QueryLaws
 pub mod Order
 pub mod SoundLaws
 pub mod OrderExamples
+pub mod ViewExamples

@@ -1,21 +1,12 @@
 -- The mask's regions and its page-table region, by rows.
 -- Assumes nothing.
-use Rattle.rows.{proofs.Kit.{_≡_, refl, sym, ap, true, _||_, false≢true, or-false, _≢_, Option, some, ℕ, _<_, ℕ-discrete}, specs.Rows.{Rows, Apart, Once}, specs.Paired.{Paired, Into}, proofs.Bools.not-both, proofs.BelowLaws.{count-lt, nth-number}, proofs.PairedLaws.{nth-there, count-same, once-same}}
+use Rattle.rows.{proofs.Kit.{_≡_, refl, ap, true, false≢true, _≢_, Option, some, ℕ, _<_, ℕ-discrete}, specs.Rows.{Rows, Apart, Once}, specs.Paired.{Paired, Into}, proofs.Bools.not-both, proofs.BelowLaws.{count-lt, nth-number}, proofs.PairedLaws.{nth-there, count-same, once-same}}
 use Rattle.initialization_header.{specs.declared.IgvmInitializationHeader.IgvmInitializationHeader, specs.declared.IgvmInitializationHeader.the-variants.{GuestPolicy, CcaPolicy, RelocatableRegion, PageTableRelocationRegion}}
 use Rattle.masks.{specs.Masks.matches, proofs.MaskLaws.matches-shares}
-use Rattle.rules.specs.{declared.Region.Region, Regions.{regionOf, regionPasses, tablesShare, regionsClash}, Relocations.{isRelocatable, isPageTable, relocatableOf, pageTableOf, regionCount, regionAt, pageTableAt}, Options.then, Reordered.regionNumber}
+use Rattle.rules.specs.{declared.Region.Region, Regions.{regionOf, tablesShare, regionsClash}, Relocations.{isRelocatable, isPageTable, relocatableOf, pageTableOf, regionCount, regionAt, pageTableAt}, Options.then, Reordered.regionNumber}
 use Rattle.rules.proofs.RegionLaws.{tables-share-says, regions-clash}
 
 -- ---- rows that match a mask
-
--- the regions of either kind that match are the kind 18 and the kind 19 rows that do
-pub region-matches : (given : ℕ) (h : IgvmInitializationHeader)
-    → regionPasses (λ r. matches given (r .mask)) h ≡ (isRelocatable given h || isPageTable given h)
-unfolding regionPasses
-region-matches given (GuestPolicy policy mask) = refl
-region-matches given (CcaPolicy mask zeroes ones) = refl
-region-matches given (RelocatableRegion mask alignment gpa size minimum maximum vtl2 rip gdtr vp vtl) = sym (or-false (matches given mask))
-region-matches given (PageTableRelocationRegion mask gpa size used vp vtl) = refl
 
 pub page-table-region : (given : ℕ) (h : IgvmInitializationHeader) → isPageTable given h ≡ true
     → (r : Region) × (regionOf h ≡ some r) × (r .«page_table» ≡ true) × (matches given (r .mask) ≡ true)

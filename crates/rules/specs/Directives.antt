@@ -11,8 +11,6 @@ use Rattle.masks.specs.Masks.{shares}
 use Rattle.addresses.specs.Addresses.{onPage}
 use Rattle.rules.specs.{declared.Region.Region, Options.passes, Regions.{regionPasses, tableHolds}}
 
--- ---- the header alone
-
 -- kinds that stand at an address
 abbrev pub hasAddress : ℕ → Bool
 hasAddress kind = eqb kind 32 || eqb kind 44 || eqb kind 45 || eqb kind 50 || eqb kind 51
@@ -25,6 +23,7 @@ hasPages kind = eqb kind 33 || eqb kind 44
 abbrev pub tooLong : DirectiveFields → Bool
 tooLong d = cond (eqb (d .kind) 32) (ltb 4096 (d .tail)) (eqb (d .kind) 33 && ltb (d .bytes) (d .tail))
 
+-- the header alone
 abbrev pub validateDirective : IgvmDirectiveHeader → Fault
 validateDirective h =
     let d = directiveFields h in
@@ -60,8 +59,6 @@ isAllocated earlier area = any (allocates area) earlier && not (any (inserts are
 unfoldable pub badArea : Rows IgvmDirectiveHeader → IgvmDirectiveHeader → Bool
 badArea earlier h =
     passes (λ area. cond (eqb (kindNumber h) 33) (any (allocates area) earlier) (not (isAllocated earlier area))) (areaOf h)
-
--- ---- the header, given those before it
 
 -- 33: an insert at an address in a page table, under a shared bit
 abbrev pub insideTable : Rows IgvmInitializationHeader → IgvmDirectiveHeader → Bool

@@ -9,19 +9,14 @@ Inv-loop r masks gpas sizes n i₀ found₀ i found = (i ≤ n) × (found ≡ an
 abbrev μ-loop : tie.MeasureT-loop
 μ-loop r masks gpas sizes n i₀ found₀ i found = n - i
 
-loop-holds : tie.Need-loop-holds Inv-loop μ-loop
-unfolding anyBelow
-loop-holds c = (search needs, refl)
-
-loop-again : tie.Need-loop-again Inv-loop μ-loop
-loop-again c = (search needs, rw (any-more, ← c .before .before .before .before .before .loop .inv .1, ← c .overlaps .ensures))
-
 returns : tie.Need-returns Inv-loop μ-loop
 returns c =
     let e : c .before .loop .i ≡ c .before .before .before .before .before .args .n = omega arith in
     rw e at (c .before .loop .inv .1)
 
 pub any-overlap-spec : {M : Type 1} → statement M
+unfolding anyBelow
 any-overlap-spec =
-    tie.close (tie.spec Inv-loop μ-loop loop-holds (λ c. search needs) (λ c. search needs) (λ c. search needs) (λ c. search needs)
-    (λ c. search needs) (λ c. search needs) (λ c κs. search needs) (λ c. search needs) (λ c. search needs) loop-again returns)
+    tie.close (tie.spec Inv-loop μ-loop (λ c. (search needs, refl)) (λ c. search needs) (λ c. search needs) (λ c. search needs)
+    (λ c. search needs) (λ c. search needs) (λ c. search needs) (λ c κs. search needs) (λ c. search needs) (λ c. search needs)
+    (λ c. (search needs, rw (any-more, ← c .before .before .before .before .before .loop .inv .1, ← c .overlaps .ensures))) returns)

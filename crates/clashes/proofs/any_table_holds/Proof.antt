@@ -9,10 +9,6 @@ Inv-loop masks gpas sizes tables n mask gpa i₀ found₀ i found = (i ≤ n) ×
 abbrev μ-loop : tie.MeasureT-loop
 μ-loop masks gpas sizes tables n mask gpa i₀ found₀ i found = n - i
 
-loop-holds : tie.Need-loop-holds Inv-loop μ-loop
-unfolding anyBelow
-loop-holds c = (search needs, refl)
-
 loop-again : tie.Need-loop-again Inv-loop μ-loop
 loop-again c =
     let l = c .before .before .before .before .before .before .before .loop in
@@ -25,7 +21,8 @@ returns c =
     rw e at (c .before .loop .inv .1)
 
 pub any-table-holds-spec : {M : Type 1} → statement M
+unfolding anyBelow
 any-table-holds-spec =
-    tie.close (tie.spec Inv-loop μ-loop loop-holds (λ c. search needs) (λ c. search needs) (λ c. search needs) (λ c κs. search needs)
-    (λ c. search needs) (λ c. search needs) (λ c. search needs) (λ c. search needs) (λ c κs. search needs) (λ c. search needs)
-    (λ c. search needs) loop-again returns)
+    tie.close (tie.spec Inv-loop μ-loop (λ c. (search needs, refl)) (λ c. search needs) (λ c. search needs) (λ c. search needs)
+    (λ c κs. search needs) (λ c. search needs) (λ c. search needs) (λ c. search needs) (λ c. search needs) (λ c κs. search needs)
+    (λ c. search needs) (λ c. search needs) loop-again returns)

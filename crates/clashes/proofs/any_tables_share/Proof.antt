@@ -12,10 +12,6 @@ abbrev μ-loop : tie.MeasureT-loop
 returns : tie.Need-returns Inv-loop μ-loop
 returns c = let a = c .before .before .before .before .args in sym (none-any (a .n) _ .1 (λ i l. rw (not-true (a .r .«page_table») (c .if1 .taken))))
 
-loop-holds : tie.Need-loop-holds Inv-loop μ-loop
-unfolding anyBelow
-loop-holds c = (search needs, refl)
-
 loop-again : tie.Need-loop-again Inv-loop μ-loop
 loop-again c =
     let e = c .before .before .before .before .before in
@@ -28,6 +24,7 @@ returns-2 c =
     rw e at (c .before .loop .inv .1)
 
 pub any-tables-share-spec : {M : Type 1} → statement M
+unfolding anyBelow
 any-tables-share-spec =
-    tie.close (tie.spec Inv-loop μ-loop returns loop-holds (λ c. search needs) (λ c. search needs) (λ c. search needs)
+    tie.close (tie.spec Inv-loop μ-loop returns (λ c. (search needs, refl)) (λ c. search needs) (λ c. search needs) (λ c. search needs)
     (λ c κs. search needs) (λ c. search needs) (λ c. search needs) loop-again returns-2)

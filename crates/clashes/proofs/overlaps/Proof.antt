@@ -2,8 +2,7 @@ use Rattle.rows.proofs.Kit.{Bool, _&&_, ap₂, needs}
 use Rattle.clashes.proofs.overlaps.Statement.{statement}
 use Rattle.clashes.proofs.overlaps.Tie as tie
 
-returns : tie.Need-returns
-returns c = ap₂ (λ (x y : Bool). x && y) (c .before .shares .ensures) (c .meets .ensures)
-
 pub overlaps-spec : {M : Type 1} → statement M
-overlaps-spec = tie.close (tie.spec (λ c κs. search needs) (λ c κs. search needs) returns)
+overlaps-spec =
+    tie.close (tie.spec (λ c κs. search needs) (λ c κs. search needs)
+    (λ c. ap₂ (λ (x y : Bool). x && y) (c .before .shares .ensures) (c .meets .ensures)))

@@ -9,33 +9,15 @@ Inv-loop masks vps vtls n contexts i₀ found₀ i found = (i ≤ n) × (found �
 abbrev μ-loop : tie.MeasureT-loop
 μ-loop masks vps vtls n contexts i₀ found₀ i found = n - i
 
--- src/lib.rt:540:5
-loop-holds : tie.Need-loop-holds Inv-loop μ-loop
-unfolding anyBelow
-loop-holds c = (search needs, refl)
-
--- src/lib.rt:541:41
--- src/lib.rt:541:41
--- src/lib.rt:541:51
--- src/lib.rt:541:51
--- src/lib.rt:541:59
--- src/lib.rt:541:25
-lacks-requires : tie.Need-lacks-requires Inv-loop μ-loop
-lacks-requires c κs = c .before .before .before .before .before .before .before .before .pre .3
-
--- src/lib.rt:542:9
--- src/lib.rt:540:5
--- src/lib.rt:540:5
-loop-again : tie.Need-loop-again Inv-loop μ-loop
-loop-again c = (search needs, rw (any-more, ← c .before .before .before .before .before .loop .inv .1, ← c .lacks .ensures))
-
--- src/lib.rt:528:1
 returns : tie.Need-returns Inv-loop μ-loop
 returns c =
     let e : c .before .loop .i ≡ c .before .before .before .before .before .args .n = omega arith in
     rw e at (c .before .loop .inv .1)
 
 pub any-lacks-spec : {M : Type 1} → statement M
+unfolding anyBelow
 any-lacks-spec =
-    tie.close (tie.spec Inv-loop μ-loop loop-holds (λ c. search needs) (λ c. search needs) (λ c. search needs) (λ c. search needs)
-    (λ c. search needs) lacks-requires (λ c. search needs) (λ c. search needs) loop-again returns)
+    tie.close (tie.spec Inv-loop μ-loop (λ c. (search needs, refl)) (λ c. search needs) (λ c. search needs) (λ c. search needs)
+    (λ c. search needs) (λ c. search needs) (λ c κs. c .before .before .before .before .before .before .before .before .pre .3)
+    (λ c. search needs) (λ c. search needs)
+    (λ c. (search needs, rw (any-more, ← c .before .before .before .before .before .loop .inv .1, ← c .lacks .ensures))) returns)

@@ -2,12 +2,7 @@ use Rattle.rows.proofs.Kit.{arith, now, List·getD-eq-default, sym, needs}
 use Rattle.contexts.proofs.mask_of_vtl.Statement.{statement}
 use Rattle.contexts.proofs.mask_of_vtl.Tie as tie
 
--- src/lib.rt:515:16
--- src/lib.rt:515:16
--- src/lib.rt:515:9
--- src/lib.rt:509:1
-returns-2 : tie.Need-returns-2
-returns-2 c = let n = c .before .pre in sym (List·getD-eq-default (now (c .before .args .contexts)) 0 (omega arith))
-
 pub mask-of-vtl-spec : {M : Type 1} → statement M
-mask-of-vtl-spec = tie.close (tie.spec (λ c. search needs) (λ c. search needs) (λ c. search needs) returns-2)
+mask-of-vtl-spec =
+    tie.close (tie.spec (λ c. search needs) (λ c. search needs) (λ c. search needs)
+    (λ c. let n = c .before .pre in sym (List·getD-eq-default (now (c .before .args .contexts)) 0 (omega arith))))

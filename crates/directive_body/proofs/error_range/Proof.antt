@@ -2,10 +2,6 @@ use Rattle.rows.proofs.Kit.{false≢true, needs}
 use Rattle.directive_body.proofs.{SoundLaws.range-sound, error_range.Statement.statement}
 use Rattle.directive_body.proofs.error_range.Tie as tie
 
--- src/lib.rt:75:9
--- src/lib.rt:77:24
--- src/lib.rt:77:5
--- src/lib.rt:71:1
 returns-2 : tie.Need-returns-2
 returns-2 c = λ arch e. range-sound arch _ (c .before .before .if1 .left) (rw (← c .before .u64-at .ensures, ← c .on-page .ensures) e)
 

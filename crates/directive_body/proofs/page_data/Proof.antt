@@ -2,13 +2,6 @@ use Rattle.rows.proofs.Kit.{false≢true, arith, eqb-true, needs}
 use Rattle.directive_body.proofs.{SoundLaws.page-sound, page_data.Statement.statement}
 use Rattle.directive_body.proofs.page_data.Tie as tie
 
--- src/lib.rt:31:9
--- src/lib.rt:34:9
--- src/lib.rt:36:5
--- src/lib.rt:36:33
--- src/lib.rt:36:32
--- src/lib.rt:36:5
--- src/lib.rt:26:1
 returns-3 : tie.Need-returns-3
 returns-3 c = λ arch e. page-sound arch _ (omega arith) (omega arith) (rw (← c .before .u64-at .ensures, ← c .u16-at .ensures) (eqb-true _ 0 e))
 

@@ -2,10 +2,6 @@ use Rattle.rows.{proofs.Kit.{false≢true, arith, leb-true, now, length, _≤_,
 use Rattle.directive_body.proofs.{SoundLaws.area-sound, parameter_area.Statement.statement}
 use Rattle.directive_body.proofs.parameter_area.Tie as tie
 
--- src/lib.rt:42:9
--- src/lib.rt:44:9
--- src/lib.rt:45:5
--- src/lib.rt:37:1
 returns-2 : tie.Need-returns-2
 returns-2 c =
     let l : 12 ≤ length (now (c .before .before .before .before .args .b)) = omega arith in (

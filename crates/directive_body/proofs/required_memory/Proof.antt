@@ -2,14 +2,6 @@ use Rattle.rows.{proofs.Kit.{false≢true, needs}, proofs.Bools.and-parts}
 use Rattle.directive_body.proofs.{SoundLaws.memory-sound, required_memory.Statement.statement}
 use Rattle.directive_body.proofs.required_memory.Tie as tie
 
--- src/lib.rt:53:9
--- src/lib.rt:55:6
--- src/lib.rt:56:30
--- src/lib.rt:56:11
--- src/lib.rt:57:30
--- src/lib.rt:57:30
--- src/lib.rt:57:11
--- src/lib.rt:49:1
 returns-2 : tie.Need-returns-2
 returns-2 c = λ arch e.
     let (x, q) = and-parts _ _ e in

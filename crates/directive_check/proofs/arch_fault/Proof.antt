@@ -13,22 +13,6 @@ others = 0 ∷ 1 ∷ 2 ∷ 3 ∷ 4 ∷ 5 ∷ 6 ∷ 7 ∷ 8 ∷ 9 ∷ 10 ∷ 11 �
 -- /work/h/2/target/rlib/igvm_defs.rlib/interface/lang/src/lib.rt:4:26
 -- /work/h/2/target/rlib/igvm_defs.rlib/interface/lang/src/lib.rt:4:26
 -- /work/h/2/target/rlib/igvm_defs.rlib/interface/lang/src/lib.rt:4:26
-returns : tie.Need-returns
-unfolding wrongContextArch isFault
-returns c = rw (c .before .enum-told .given .1) (cc)
-
-returns-2 : tie.Need-returns-2
-unfolding wrongContextArch isFault
-returns-2 c = rw (c .before .enum-told2 .given .1) (cc)
-
-returns-3 : tie.Need-returns-3
-unfolding wrongContextArch isFault
-returns-3 c = rw (c .before .enum-told3 .given .1) (cc)
-
-returns-4 : tie.Need-returns-4
-unfolding wrongContextArch isFault
-returns-4 c = rw (c .before .enum-told4 .given .1) (cc)
-
 returns-5 : tie.Need-returns-5
 unfolding wrongContextArch
 returns-5 c =
@@ -37,7 +21,9 @@ returns-5 c =
     simp (not-kind others h 14 tt k, not-kind others h 15 tt k, not-kind others h 16 tt k, not-kind others h 17 tt k)
 
 pub arch-fault-spec : {M : Type 1} → statement M
+unfolding wrongContextArch isFault
 arch-fault-spec =
     tie.close (tie.spec (λ c κs. search needs) (λ c κs. search needs) (λ c. search needs) (λ c κs. search needs) (λ c. search needs)
-    (λ c κs. search needs) (λ c. search needs) (λ c κs. search needs) (λ c. search needs) (λ c κs. search needs) returns returns-2 returns-3
-    returns-4 returns-5)
+    (λ c κs. search needs) (λ c. search needs) (λ c κs. search needs) (λ c. search needs) (λ c κs. search needs)
+    (λ c. rw (c .before .enum-told .given .1) (cc)) (λ c. rw (c .before .enum-told2 .given .1) (cc))
+    (λ c. rw (c .before .enum-told3 .given .1) (cc)) (λ c. rw (c .before .enum-told4 .given .1) (cc)) returns-5)

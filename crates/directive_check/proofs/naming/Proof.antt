@@ -14,10 +14,6 @@ parameter-least kind t =
     let u = leb-true kind 43 b in
     each (λ k. kindOf k .least ≡ 8) 34 10 (refl ⨾ refl ⨾ refl ⨾ refl ⨾ refl ⨾ refl ⨾ refl ⨾ refl ⨾ refl ⨾ refl ⨾ tt) kind l (omega arith)
 
-u32-at-requires : tie.Need-u32-at-requires
-unfolding kindOf spans
-u32-at-requires c κs = rw (c .if1 .taken) at (c .before .before .pre)
-
 returns : tie.Need-returns
 unfolding howNamed areaNamed
 returns c =
@@ -37,10 +33,6 @@ returns-2 c =
     let e = ne-eqb _ _ (c .before .before .before .if1 .left) in
     (rw (e, p), rw (e, p) (c .u32-at2 .ensures))
 
-u32-at-requires-3 : tie.Need-u32-at-requires-3
-unfolding kindOf spans
-u32-at-requires-3 c κs = rw (c .if3 .taken) at (c .before .before .before .before .before .pre)
-
 returns-3 : tie.Need-returns-3
 unfolding howNamed areaNamed
 returns-3 c =
@@ -58,5 +50,7 @@ returns-4 c =
     (rw (e, p, f), rw (e, p, f))
 
 pub naming-spec : {M : Type 1} → statement M
+unfolding kindOf spans
 naming-spec =
-    tie.close (tie.spec u32-at-requires returns (λ c κs. search needs) u32-at-requires-2 returns-2 u32-at-requires-3 returns-3 returns-4)
+    tie.close (tie.spec (λ c κs. rw (c .if1 .taken) at (c .before .before .pre)) returns (λ c κs. search needs) u32-at-requires-2 returns-2
+    (λ c κs. rw (c .if3 .taken) at (c .before .before .before .before .before .pre)) returns-3 returns-4)

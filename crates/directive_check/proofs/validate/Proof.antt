@@ -26,18 +26,6 @@ returns-3 c =
     let b = c .before .before .before in
     rw (b .before .before .h3 .given .1, ← b .on-page3 .ensures, ← c .before .on-page4 .ensures) (c .or7 .ensures .is ∙ c .before .before .or6 .ensures .later _)
 
-returns-4 : tie.Need-returns-4
-unfolding isFault
-returns-4 c = rw (c .before .before .before .h4 .given .1, ← c .before .on-page5 .ensures) (c .or8 .ensures .is)
-
-returns-5 : tie.Need-returns-5
-unfolding isFault
-returns-5 c = rw (c .before .before .before .h5 .given .1, ← c .before .on-page6 .ensures) (c .or9 .ensures .is)
-
-returns-6 : tie.Need-returns-6
-unfolding isFault
-returns-6 c = rw (c .before .before .before .h6 .given .1, ← c .before .on-page7 .ensures) (c .or10 .ensures .is)
-
 returns-7 : tie.Need-returns-7
 returns-7 c =
     let h = c .before .args .h in
@@ -45,9 +33,13 @@ returns-7 c =
     simp (not-kind others h 0 tt k, not-kind others h 1 tt k, not-kind others h 12 tt k, not-kind others h 13 tt k, not-kind others h 18 tt k, not-kind others h 19 tt k)
 
 pub validate-spec : {M : Type 1} → statement M
+unfolding isFault
 validate-spec =
     tie.close (tie.spec (λ c. search needs) (λ c κs. search needs) (λ c κs. search needs) (λ c κs. search needs) (λ c κs. search needs)
     (λ c. search needs) (λ c κs. search needs) (λ c κs. search needs) (λ c κs. search needs) (λ c. search needs) (λ c κs. search needs)
     (λ c κs. search needs) (λ c. search needs) (λ c. search needs) (λ c κs. search needs) (λ c κs. search needs) (λ c. search needs)
     (λ c κs. search needs) (λ c κs. search needs) (λ c. search needs) (λ c κs. search needs) (λ c κs. search needs) (λ c. search needs)
-    (λ c κs. search needs) (λ c κs. search needs) returns returns-2 returns-3 returns-4 returns-5 returns-6 returns-7)
+    (λ c κs. search needs) (λ c κs. search needs) returns returns-2 returns-3
+    (λ c. rw (c .before .before .before .h4 .given .1, ← c .before .on-page5 .ensures) (c .or8 .ensures .is))
+    (λ c. rw (c .before .before .before .h5 .given .1, ← c .before .on-page6 .ensures) (c .or9 .ensures .is))
+    (λ c. rw (c .before .before .before .h6 .given .1, ← c .before .on-page7 .ensures) (c .or10 .ensures .is)) returns-7)

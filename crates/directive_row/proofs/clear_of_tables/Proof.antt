@@ -2,11 +2,6 @@ use Rattle.rows.proofs.Kit.{not-true, false≢true, _∙_, needs}
 use Rattle.directive_row.proofs.{AreaRowLaws.insert-table, clear_of_tables.Statement.statement}
 use Rattle.directive_row.proofs.clear_of_tables.Tie as tie
 
--- src/lib.rt:206:9
--- src/lib.rt:214:9
--- src/lib.rt:215:9
--- src/lib.rt:208:6
--- src/lib.rt:194:1
 returns-2 : tie.Need-returns-2
 returns-2 c = λ is h e. insert-table is _ _ (rw (c .before .before .u32-at .ensures, c .before .u64-at .ensures) at (c .any-table-holds .ensures ∙ h _ _)) (not-true _ e)
 

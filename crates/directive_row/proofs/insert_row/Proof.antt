@@ -4,15 +4,6 @@ use Rattle.directive_row.specs.Row.{stateOf}
 use Rattle.directive_row.proofs.{AreaRowLaws.{table-says, insert-area}, insert_row.Statement.statement}
 use Rattle.directive_row.proofs.insert_row.Tie as tie
 
--- src/lib.rt:180:9
--- src/lib.rt:182:9
--- src/lib.rt:183:28
--- src/lib.rt:183:9
--- src/lib.rt:184:9
--- src/lib.rt:186:8
--- src/lib.rt:187:9
--- src/lib.rt:189:5
--- src/lib.rt:171:1
 returns-4 : tie.Need-returns-4
 returns-4 c =
     let u = c .before .before .before .before .before .before .before .before .before .before .before .before .before .before .u32-at .ensures in

@@ -3,13 +3,6 @@ use Rattle.directive_row.specs.Row.{stateOf}
 use Rattle.directive_row.proofs.{AreaRowLaws.{table-says, area-row}, parameter_area_row.Statement.statement}
 use Rattle.directive_row.proofs.parameter_area_row.Tie as tie
 
--- src/lib.rt:144:9
--- src/lib.rt:145:9
--- src/lib.rt:147:9
--- src/lib.rt:148:8
--- src/lib.rt:149:9
--- src/lib.rt:151:5
--- src/lib.rt:136:1
 returns-3 : tie.Need-returns-3
 returns-3 c =
     let u = c .before .before .before .before .before .before .before .before .before .before .before .u32-at .ensures in

@@ -2,10 +2,6 @@ use Rattle.rows.proofs.Kit.{not-false, false≢true, needs}
 use Rattle.directive_row.proofs.parameter_insert_row.Statement.{statement}
 use Rattle.directive_row.proofs.parameter_insert_row.Tie as tie
 
--- src/lib.rt:233:9
--- src/lib.rt:234:9
--- src/lib.rt:236:5
--- src/lib.rt:219:1
 returns-2 : tie.Need-returns-2
 returns-2 c = (λ arch is earlier h k e. (c .insert-row .ensures .0 arch earlier k e, c .before .before .before .before .before .before .clear-of-tables .ensures is h (not-false _ (c .before .before .before .before .before .if1 .left))), c .insert-row .ensures .1)
 

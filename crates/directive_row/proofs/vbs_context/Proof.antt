@@ -2,23 +2,6 @@ use Rattle.rows.proofs.Kit.{length-set, not-false, arith, false≢true, true≢
 use Rattle.directive_row.proofs.{PlainLaws.vbs-more, vbs_context.Statement.statement}
 use Rattle.directive_row.proofs.vbs_context.Tie as tie
 
--- src/lib.rt:96:9
--- src/lib.rt:99:9
-returns-2 : tie.Need-returns-2
-returns-2 c = (λ e. absurd (false≢true e), (λ e. refl, c .before .before .before .pre))
-
--- src/lib.rt:101:18
--- src/lib.rt:101:9
--- src/lib.rt:103:9
-returns-3 : tie.Need-returns-3
-returns-3 c = (λ e. absurd (false≢true e), (λ e. refl, c .before .before .before .before .before .before .pre))
-
--- src/lib.rt:105:19
--- src/lib.rt:105:19
--- src/lib.rt:105:33
--- src/lib.rt:105:5
--- src/lib.rt:105:5
--- src/lib.rt:90:1
 returns-4 : tie.Need-returns-4
 returns-4 c =
     let n = c .before .before .before .before .before .before .before .before .pre in (
@@ -28,6 +11,7 @@ returns-4 c =
 
 pub vbs-context-spec : {M : Type 1} → statement M
 vbs-context-spec =
-    tie.close (tie.spec (λ c. (λ e. absurd (false≢true e), (λ e. refl, c .before .before .pre))) returns-2 (λ c. search needs)
-    (λ c κs. search needs) returns-3 (λ c. search needs) (λ c. search needs) (λ c κs. search needs) (λ c. search needs) (λ c. search needs)
-    returns-4)
+    tie.close (tie.spec (λ c. (λ e. absurd (false≢true e), (λ e. refl, c .before .before .pre)))
+    (λ c. (λ e. absurd (false≢true e), (λ e. refl, c .before .before .before .pre))) (λ c. search needs) (λ c κs. search needs)
+    (λ c. (λ e. absurd (false≢true e), (λ e. refl, c .before .before .before .before .before .before .pre))) (λ c. search needs)
+    (λ c. search needs) (λ c κs. search needs) (λ c. search needs) (λ c. search needs) returns-4)

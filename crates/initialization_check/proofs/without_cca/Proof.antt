@@ -20,10 +20,6 @@ Inv-loop platforms mask bits n i₀ i = (i ≤ n) × (firstMask (without platfor
 abbrev μ-loop : tie.MeasureT-loop
 μ-loop platforms mask bits n i₀ i = n - i
 
-loop-holds : tie.Need-loop-holds Inv-loop μ-loop
-unfolding firstMask
-loop-holds c = (search needs, refl)
-
 returns : tie.Need-returns Inv-loop μ-loop
 returns c =
     let s = c .before .before .before .before .before in
@@ -52,6 +48,7 @@ returns-2 c =
     sym (ap fault25 (ap (firstMask p) (sym (s .extract-individual-masks .ensures .0)) ∙ rw e at (c .before .loop .inv .1)))
 
 pub without-cca-spec : {M : Type 1} → statement M
+unfolding firstMask
 without-cca-spec =
-    tie.close (tie.spec Inv-loop μ-loop (λ c κs. search needs) loop-holds (λ c. search needs) (λ c. search needs) (λ c κs. search needs)
-    (λ c. search needs) returns (λ c. search needs) (λ c. search needs) loop-again returns-2)
+    tie.close (tie.spec Inv-loop μ-loop (λ c κs. search needs) (λ c. (search needs, refl)) (λ c. search needs) (λ c. search needs)
+    (λ c κs. search needs) (λ c. search needs) returns (λ c. search needs) (λ c. search needs) loop-again returns-2)

@@ -2,9 +2,6 @@ use Rattle.rows.proofs.Kit.{false≢true, needs}
 use Rattle.initialization_row.proofs.{RowLaws.policy-in-order, policy_row.Statement.statement}
 use Rattle.initialization_row.proofs.policy_row.Tie as tie
 
-returns : tie.Need-returns
-returns c arch ps new ex holds e = absurd (false≢true e)
-
 returns-2 : tie.Need-returns-2
 returns-2 c arch ps new ex holds e =
     let s = c .before .before in
@@ -14,5 +11,5 @@ returns-2 c arch ps new ex holds e =
 
 pub policy-row-spec : {M : Type 1} → statement M
 policy-row-spec =
-    tie.close (tie.spec returns (λ c κs. search needs) (λ c κs. search needs) (λ c κs. search needs) (λ c κs. search needs)
-    (λ c κs. search needs) returns-2)
+    tie.close (tie.spec (λ c arch ps new ex holds e. absurd (false≢true e)) (λ c κs. search needs) (λ c κs. search needs)
+    (λ c κs. search needs) (λ c κs. search needs) (λ c κs. search needs) returns-2)

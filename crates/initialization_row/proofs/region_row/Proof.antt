@@ -2,9 +2,6 @@ use Rattle.rows.{proofs.Bools.not-both, proofs.Kit.needs}
 use Rattle.initialization_row.proofs.{RowLaws.region-in-order, region_row.Statement.statement}
 use Rattle.initialization_row.proofs.region_row.Tie as tie
 
-returns : tie.Need-returns
-returns c arch ps e = not-both (c .without-region .ensures .0) e
-
 returns-2 : tie.Need-returns-2
 returns-2 c arch ps e =
     let own = c .before .before .before .before in
@@ -16,6 +13,7 @@ returns-2 c arch ps e =
 
 pub region-row-spec : {M : Type 1} → statement M
 region-row-spec =
-    tie.close (tie.spec (λ c κs. search needs) returns (λ c κs. search needs) (λ c κs. search needs) (λ c κs. search needs)
-    (λ c κs. search needs) (λ c. search needs) (λ c κs. search needs) (λ c κs. search needs) (λ c κs. search needs) (λ c κs. search needs)
-    (λ c. search needs) (λ c. search needs) (λ c κs. search needs) (λ c κs. search needs) returns-2)
+    tie.close (tie.spec (λ c κs. search needs) (λ c arch ps e. not-both (c .without-region .ensures .0) e) (λ c κs. search needs)
+    (λ c κs. search needs) (λ c κs. search needs) (λ c κs. search needs) (λ c. search needs) (λ c κs. search needs) (λ c κs. search needs)
+    (λ c κs. search needs) (λ c κs. search needs) (λ c. search needs) (λ c. search needs) (λ c κs. search needs) (λ c κs. search needs)
+    returns-2)

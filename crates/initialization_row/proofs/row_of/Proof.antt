@@ -12,16 +12,9 @@ returns-2 c arch ps ex holds e =
     let r = c .without-region2 in
     rw (c .before .before .match .keys2, r .ensures .1) (c .before .policy-row .ensures arch ps (r .result .region) ex holds (sym (r .ensures .0) ∙ e))
 
-returns-3 : tie.Need-returns-3
-returns-3 c arch ps ex holds e = rw (c .before .match .keys3) (c .region-row .ensures arch ps e)
-
-returns-4 : tie.Need-returns-4
-returns-4 c arch ps ex holds e = rw (c .before .match .keys4) (c .table-row .ensures arch ps e)
-
-returns-5 : tie.Need-returns-5
-returns-5 c arch ps ex holds e = not-both (c .without-region3 .ensures .0) e
-
 pub row-of-spec : {M : Type 1} → statement M
 row-of-spec =
     tie.close (tie.spec (λ c κs. search needs) (λ c κs. search needs) (λ c κs. search needs) (λ c κs. search needs) (λ c κs. search needs)
-    (λ c κs. search needs) returns returns-2 returns-3 returns-4 returns-5)
+    (λ c κs. search needs) returns returns-2 (λ c arch ps ex holds e. rw (c .before .match .keys3) (c .region-row .ensures arch ps e))
+    (λ c arch ps ex holds e. rw (c .before .match .keys4) (c .table-row .ensures arch ps e))
+    (λ c arch ps ex holds e. not-both (c .without-region3 .ensures .0) e))

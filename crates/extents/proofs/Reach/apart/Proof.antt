@@ -3,9 +3,6 @@ use Rattle.extents.specs.Extents.{apartFrom}
 use Rattle.extents.proofs.Reach.apart.Statement.{statement}
 use Rattle.extents.proofs.Reach.apart.Tie as tie
 
-returns : tie.Need-returns
-unfolding apartFrom
-returns c = rw (c .before .apart .ensures, c .apart2 .ensures)
-
 pub apart-spec : {M : Type 1} → statement M
-apart-spec = tie.close (tie.spec (λ c κs. search needs) (λ c κs. search needs) returns)
+unfolding apartFrom
+apart-spec = tie.close (tie.spec (λ c κs. search needs) (λ c κs. search needs) (λ c. rw (c .before .apart .ensures, c .apart2 .ensures)))

@@ -3,22 +3,15 @@ use Rattle.extents.specs.Extents.{apartFrom}
 use Rattle.extents.proofs.{ExtentLaws.{wider-tables, wider-regions}, Reach.with.Statement.statement}
 use Rattle.extents.proofs.Reach.with.Tie as tie
 
-returns : tie.Need-returns
-returns c q t = (t, λ e. not-both (not-true (c .before .before .before .args .found) (c .if1 .taken)) e)
-
 with-requires : tie.Need-with-requires
 with-requires c κs = c .before .before .before .before .pre (not-false (c .before .before .before .before .args .found) (c .before .if1 .left))
-
-returns-2 : tie.Need-returns-2
-unfolding apartFrom
-returns-2 c q t = let (a, b) = wider-tables _ _ _ _ (c .with .ensures) q t in (a, λ _. b)
 
 with-requires-2 : tie.Need-with-requires-2
 with-requires-2 c κs = c .before .before .before .before .pre (not-false (c .before .before .before .before .args .found) (c .before .if1 .left))
 
-returns-3 : tie.Need-returns-3
-unfolding apartFrom
-returns-3 c q t = let (a, b) = wider-regions _ _ _ _ (c .with2 .ensures) q t in (a, λ _. b)
-
 pub with-spec : {M : Type 1} → statement M
-with-spec = tie.close (tie.spec returns with-requires returns-2 with-requires-2 returns-3)
+unfolding apartFrom
+with-spec =
+    tie.close (tie.spec (λ c q t. (t, λ e. not-both (not-true (c .before .before .before .args .found) (c .if1 .taken)) e)) with-requires
+    (λ c q t. let (a, b) = wider-tables _ _ _ _ (c .with .ensures) q t in (a, λ _. b)) with-requires-2
+    (λ c q t. let (a, b) = wider-regions _ _ _ _ (c .with2 .ensures) q t in (a, λ _. b)))

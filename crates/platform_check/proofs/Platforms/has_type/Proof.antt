@@ -8,16 +8,13 @@ Inv-loop kind self n i₀ found₀ i found = (i ≤ n) × (found ≡ anyBelow i 
 abbrev μ-loop : tie.MeasureT-loop
 μ-loop kind self n i₀ found₀ i found = n - i
 
-loop-holds : tie.Need-loop-holds Inv-loop μ-loop
-unfolding anyBelow
-loop-holds c = (search needs, refl)
-
 returns : tie.Need-returns Inv-loop μ-loop
 returns c =
     let e : c .before .loop .i ≡ c .before .before .args .t1 .count = omega arith in
     rw e at (c .before .loop .inv .1)
 
 pub has-type-spec : {M : Type 1} → statement M
+unfolding anyBelow
 has-type-spec =
-    tie.close (tie.spec Inv-loop μ-loop loop-holds (λ c. search needs) (λ c. search needs) (λ c. search needs)
+    tie.close (tie.spec Inv-loop μ-loop (λ c. (search needs, refl)) (λ c. search needs) (λ c. search needs) (λ c. search needs)
     (λ c. (search needs, rw any-more (cc))) returns)

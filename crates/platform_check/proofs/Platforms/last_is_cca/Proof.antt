@@ -23,13 +23,6 @@ Inv-loop mask self n i₀ found₀ i found = (i ≤ n) × (found ≡ typeAt self
 abbrev μ-loop : tie.MeasureT-loop
 μ-loop mask self n i₀ found₀ i found = n - i
 
-loop-holds : tie.Need-loop-holds Inv-loop μ-loop
-unfolding lastBelow
-loop-holds c = (search needs, refl)
-
-loop-again : tie.Need-loop-again Inv-loop μ-loop
-loop-again c = (search needs, rw (last-more (typeAt (c .before .before .before .before .before .args .t1))) (cc))
-
 returns : tie.Need-returns Inv-loop μ-loop
 returns c =
     let a = c .before .before .args in
@@ -37,6 +30,8 @@ returns c =
     last-cca (a .t1) (a .mask) (c .before .loop .found) (rw e at (c .before .loop .inv .1))
 
 pub last-is-cca-spec : {M : Type 1} → statement M
+unfolding lastBelow
 last-is-cca-spec =
-    tie.close (tie.spec Inv-loop μ-loop loop-holds (λ c. search needs) (λ c. search needs) (λ c. search needs) (λ c κs. search needs)
-    (λ c. search needs) (λ c. search needs) loop-again returns)
+    tie.close (tie.spec Inv-loop μ-loop (λ c. (search needs, refl)) (λ c. search needs) (λ c. search needs) (λ c. search needs)
+    (λ c κs. search needs) (λ c. search needs) (λ c. search needs)
+    (λ c. (search needs, rw (last-more (typeAt (c .before .before .before .before .before .args .t1))) (cc))) returns)
