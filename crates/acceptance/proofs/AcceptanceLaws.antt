@@ -1,16 +1,14 @@
 -- Where every row was passed, none of the refusals of rows and headers applies.
 -- Assumes nothing.
-use Rattle.rows.{proofs.Kit.{ℕ, _+_, _-_, _≤_, _<_, arith, _≡_, ap, _∙_, Bool, false, List, [], _∷_, length, le-ltb}, specs.Below.anyBelow, specs.Rows.Rows, proofs.BelowLaws.none-any}
-use Rattle.igvm_defs.{specs.Refusals.{fault, noFault, refuse, isFault, isRefusal}, proofs.RefusalLaws.{no-fault, row-refusal}}
+use Rattle.rows.{proofs.Kit.{ℕ, _+_, _-_, _≤_, _<_, arith, _≡_, ap, _∙_, Bool, false, List, [], _∷_, length, le-ltb}, specs.Below.anyBelow, proofs.BelowLaws.none-any}
+use Rattle.igvm_defs.{specs.Refusals.{fault, noFault, refuse, isFault, isRefusal}, proofs.RefusalLaws.{no-fault, row-refusal, fault-end}}
 use Rattle.sheet.{specs.declared.Cursor.Cursor, specs.Head.{limits, headOf, rowCount, bodiesAt, startFault, firstDirective}, specs.Table.offsetOf, specs.Read.{endFault, rowsRefusal}, specs.Walk.ReadTo, proofs.Readable.start-says, proofs.ReadLaws.rows-end}
-use Rattle.initialization_header.specs.declared.IgvmInitializationHeader.{IgvmInitializationHeader}
-use Rattle.rules.{specs.Regions.tableHolds, specs.Verdict.{platformFaults, initializationFaults, platformsRefusal, directivesRefusal}, proofs.Acceptance.{platforms-say, initializations-say, headers-say}}
+use Rattle.rules.{specs.Verdict.{directiveFaults, platformFaults, initializationFaults, platformsRefusal, directivesRefusal}, proofs.Acceptance.{platforms-say, initializations-say, headers-say}}
 use Rattle.contexts.specs.Contexts.{anyLacks}
-use Rattle.clashes.specs.Clashes.{HoldsTables}
-use Rattle.initialization_check.{specs.declared.RelocRegions.RelocRegions, specs.Record.{anyRegion, regionsIn, HoldsRegions, HoldsRows}}
+use Rattle.initialization_check.{specs.declared.RelocRegions.RelocRegions, specs.Record.{anyRegion, regionsIn, HoldsRows}}
 use Rattle.directive_check.{specs.Record.{HoldsContexts, lacksContext}, proofs.DirectiveRecordLaws.holds-no-contexts}
 use Rattle.sheet_headers.{specs.Headers.sheetHeaders, proofs.HeaderLaws.sheet-counts}
-use Rattle.directive_pass.proofs.DirectivePass.{directives-end}
+use Rattle.directive_pass.proofs.DirectivePass.{directives-last}
 use Rattle.platform_accept.specs.Accepted.{PlatformsAccepted, HoldsCca}
 use Rattle.initialization_accept.specs.Accepted.{InitializationsAccepted}
 use Rattle.directive_accept.specs.Accepted.{DirectivesAccepted}
@@ -54,12 +52,6 @@ initializations-none s held numbers c a l p =
       rw e at (a .rows),
     )
 
--- the regions in the arrays have the page tables
-pub tables-held : (masks gpas sizes vps vtls : List ℕ) (tables : List Bool) (n : ℕ) (xs : Rows IgvmInitializationHeader)
-    → HoldsRegions (regionsIn masks gpas sizes vps vtls tables n) xs → HoldsTables masks gpas sizes tables n xs
-unfolding tableHolds
-tables-held masks gpas sizes vps vtls tables n xs h mask gpa = h .same (tableHolds mask gpa)
-
 -- the directive rows, and 34
 pub all-none : (s masks gpas sizes vps vtls : List ℕ) (tables : List Bool) (n : ℕ) (numbers contexts : List ℕ) (from c : Cursor)
     → ListsAccepted s (regionsIn masks gpas sizes vps vtls tables n) from → DirectivesAccepted s c contexts → rowCount (headOf s) ≤ c .row → length s ≤ c .at
@@ -73,7 +65,7 @@ all-none s masks gpas sizes vps vtls tables n numbers contexts from c lists a l 
     let contexts-held : HoldsContexts contexts (f .directives) = rw e at (a .holds) in
     let none : isFault (refuse (anyRegion (lacksContext contexts) held) (fault 34 0) noFault) ≡ false = rw lacks no-fault in
     let directives : isRefusal (directivesRefusal f) ≡ false =
-    rw (← directives-end f held contexts (lists .holds) contexts-held (rw e at (a .good))) (row-refusal 0 (refuse (anyRegion (lacksContext contexts) held) (fault 34 0) noFault) ∙ none)
+    rw (← directives-last f held contexts (lists .holds) contexts-held (fault-end (f .platforms .count + f .initializations .count) (f .directives .count) (directiveFaults f) (rw e at (a .good)))) (row-refusal 0 (refuse (anyRegion (lacksContext contexts) held) (fault 34 0) noFault) ∙ none)
     in
     record {
       read = rows-read s c (a .read) l whole;

@@ -41,7 +41,7 @@ module _ (f : Headers) where
   directives-first r e t = rw e (orElse-first r (inRow 0 (noMatchingVpContext f)) t)
 
   -- no row with a fault: the regions' contexts
-  directives-last : (r : RelocRegions) (contexts : List ℕ) → HoldsRegions r (f .initializations) → HoldsContexts contexts (f .directives)
+  pub directives-last : (r : RelocRegions) (contexts : List ℕ) → HoldsRegions r (f .initializations) → HoldsContexts contexts (f .directives)
       → firstFault (f .platforms .count + f .initializations .count) (f .directives .count) (directiveFaults f) ≡ noRefusal
       → inRow 0 (refuse (anyRegion (lacksContext contexts) r) (fault 34 0) noFault) ≡ directivesRefusal f
   unfolding directivesRefusal noMatchingVpContext isRefusal

@@ -1,7 +1,6 @@
 -- What holds of a readable sheet: its head and its rows pass, and the bodies end where the sheet does. Both ways.
 -- Assumes nothing.
-use lib.Seq.{getD-drop}
-use Rattle.rows.{proofs.Kit.{_≡_, refl, Bool, true, false, not, _&&_, _||_, List, _↔_, ℕ, zero, suc, _+_, _<_, _≤_, arith, add-one, leb, ltb, eqb, length, length-take, length-drop, getD-take, leb-true, le-leb, ltb-false, le-ltb, lt-ltb, eqb-true, eq-eqb, not-false}, specs.Below.{anyBelow, sumBelow}, proofs.Bools.{or-false-parts, and-parts}, proofs.BelowLaws.{none-any, sum-more}}
+use Rattle.rows.{proofs.Kit.{_≡_, refl, true, false, not, _||_, List, _↔_, ℕ, zero, suc, _+_, _<_, _≤_, arith, add-one, leb, ltb, eqb, length, length-take, length-drop, leb-true, le-leb, ltb-false, le-ltb, lt-ltb, eqb-true, eq-eqb, not-false}, specs.Below.{anyBelow, sumBelow}, proofs.Bools.{or-false-parts, and-parts}, proofs.BelowLaws.{none-any, sum-more}}
 use Rattle.le.specs.Le.{byteAt}
 use Rattle.igvm_defs.{specs.Refusals.{isFault, isRefusal}, specs.Kinds.{platformList, initializationList, directiveList, kindOf, lengthOk}, specs.Revision.pageSizeOf, proofs.RefusalLaws.{no-fault, refuse-fault, row-refusal, else-refusal, faults-any}, proofs.LengthLaws.length-least}
 use Rattle.sheet.specs.{declared.Cursor.Cursor, declared.SheetHead.SheetHead, Head.{Limits, limits, headOf, rowCount, bodiesAt, layoutOk, withinLimits, startFault, revisionOf, pageSizeFault}, Table.{rowKind, rowLength, offsetOf, bodyOf}, Read.{listAt, codesOk, rowFault, endFault, rowsRefusal, readRefusal, Readable, sheetRefusal}, Walk.{cursorAt, AtRow}}
@@ -43,22 +42,12 @@ within-says : (l : Limits) (h : SheetHead) (n : ℕ)
 unfolding withinLimits
 within-says l h n = (there, λ (a, b, c, d). rw (le-leb _ _ a, le-leb _ _ b, le-leb _ _ c, le-leb _ _ d))
   where
-    p : Bool
-    p = leb (h .platforms) (l .platforms)
-
-    i : Bool
-    i = leb (h .initializations) (l .initializations)
-
-    d : Bool
-    d = leb (h .directives) (l .directives)
-
-    b : Bool
-    b = leb n (l .bytes)
-
-    there : (p && i && d && b) ≡ true → (h .platforms ≤ l .platforms) × (h .initializations ≤ l .initializations) × (h .directives ≤ l .directives) × (n ≤ l .bytes)
+    there : withinLimits l h n ≡ true → (h .platforms ≤ l .platforms) × (h .initializations ≤ l .initializations) × (h .directives ≤ l .directives) × (n ≤ l .bytes)
     there e =
-        let (x, w) = and-parts (p && i && d) b e in let (y, v) = and-parts (p && i) d x in let (z, u) = and-parts p i y in
-        (leb-true _ _ z, leb-true _ _ u, leb-true _ _ v, leb-true _ _ w)
+        let (x, bytes) = and-parts _ (leb n (l .bytes)) e in
+        let (y, directives) = and-parts _ (leb (h .directives) (l .directives)) x in
+        let (platforms, initializations) = and-parts (leb (h .platforms) (l .platforms)) (leb (h .initializations) (l .initializations)) y in
+        (leb-true _ _ platforms, leb-true _ _ initializations, leb-true _ _ directives, leb-true _ _ bytes)
 
 pub start-says : (l : Limits) (s : List ℕ) → (isFault (startFault l s) ≡ false) ↔ Started l s
 start-says l s = (there, back)

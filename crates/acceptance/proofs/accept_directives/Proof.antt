@@ -1,12 +1,13 @@
 use Rattle.rows.{proofs.Bools.and-parts, proofs.Kit.{leb-true, not-true, arith, false≢true, refl, sym, _∙_}}
-use Rattle.acceptance.proofs.{AcceptanceLaws.{table-room, tables-held, all-none}, accept_directives.Statement.statement}
+use Rattle.directive_pass.proofs.DirectivePass.{holds-tables}
+use Rattle.acceptance.proofs.{AcceptanceLaws.{table-room, all-none}, accept_directives.Statement.statement}
 use Rattle.acceptance.proofs.accept_directives.Tie as tie
 
 accept-requires : tie.Need-accept-requires
 accept-requires c κs =
     let p = c .before .before .before .before .before .before .before .before .pre in
     let lists = p .1 .1 .0 in let n = p .1 .0 in
-    ((table-room _ (p .0 .0), p .0 .1, p .0 .2), (((n .0, n .1, n .2, n .5), tables-held _ _ _ _ _ _ _ _ (lists .holds)), (lists .read, lists .row, p .1 .1 .1)))
+    ((table-room _ (p .0 .0), p .0 .1, p .0 .2), (((n .0, n .1, n .2, n .5), holds-tables _ _ (lists .holds)), (lists .read, lists .row, p .1 .1 .1)))
 
 returns : tie.Need-returns
 returns c = ((c .before .before .accept .ensures .0, refl), λ numbers rows e. absurd (false≢true e))
