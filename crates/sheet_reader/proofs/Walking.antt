@@ -167,11 +167,8 @@ module _ {M : Type 1} {𝓤 : URA M} {H : Heap 𝓤} {A : Atoms 𝓤} (W : Given
   abbrev Ret : RattleType
   Ret = c .gives .row (κ, tt)
 
-  -- what the callee asks of the reader can be had
-  abbrev pub Granted : Type 2
-  Granted = (X : SProp 𝓤) → ent 𝓤 X (sep 𝓤 X (c .asks d))
-
-  pub reader-asks : Granted → ent 𝓤 (⋆ 𝓤 H A (‵ (Own κ d) ∷ token 𝓤 H A κ q d ∷ [])) (ReaderDoes 𝓤 H A c .pre to-reader)
+  -- what a function of a reader asks, where what its contract asks can be had
+  pub reader-asks : ((X : SProp 𝓤) → ent 𝓤 X (sep 𝓤 X (c .asks d))) → ent 𝓤 (⋆ 𝓤 H A (‵ (Own κ d) ∷ token 𝓤 H A κ q d ∷ [])) (ReaderDoes 𝓤 H A c .pre to-reader)
   reader-asks p = qed W (‵ (Own κ d) ∷ token 𝓤 H A κ q d ∷ []) ∵ nothing ! $ move ! (1 ∷ 0 ∷ []) $ fjoin ! $ move ! (1 ∷ 0 ∷ []) $ by ! (p (reader-entry 𝓤 H A κ q d))
 
   -- a function of a reader calls one of its parts, and keeps the reader
@@ -183,7 +180,7 @@ module _ {M : Type 1} {𝓤 : URA M} {H : Heap 𝓤} {A : Atoms 𝓤} (W : Given
       move ! (2 ∷ 0 ∷ 3 ∷ []) $ join ! $ use2 W (raw (PartsDo 𝓤 H A c .pre to-parts)) (id⊢ 𝓤 _) $ frame ! $ done !
 
   -- a function of the parts calls another, and keeps the slice
-  pub parts-ask-too : Granted → ent 𝓤 (parts-entry 𝓤 H A κ q d) (sep 𝓤 (PartsDo 𝓤 H A c .pre to-parts) (sem 𝓤 H A (Bytes κ (d .bytes))))
+  pub parts-ask-too : ((X : SProp 𝓤) → ent 𝓤 X (sep 𝓤 X (c .asks d))) → ent 𝓤 (parts-entry 𝓤 H A κ q d) (sep 𝓤 (PartsDo 𝓤 H A c .pre to-parts) (sem 𝓤 H A (Bytes κ (d .bytes))))
   parts-ask-too p =
       qed W (token 𝓤 H A κ q d ∷ ‵ (OwnParts κ d) ∷ []) ∵ move ! (1 ∷ []) $ fsplit ! $ use1 W (‵ (Bytes κ (d .bytes)) ⊛ ‵ (Bytes κ (d .bytes))) (slice-twice W κ d) $ split ! $
       move ! (0 ∷ 2 ∷ []) $ fjoin ! $ move ! (2 ∷ 0 ∷ []) $ use2 W (raw (PartsDo 𝓤 H A c .pre to-parts)) (p (parts-entry 𝓤 H A κ q d)) $ frame ! $ done !

@@ -3,13 +3,8 @@
 use Rattle.rows.{proofs.Kit.{refl, _<_, _^_, [], _∷_}, proofs.Walks.{URA, fullShare, named, erased, w64, Val, vint, ent, sep, Lft, Share, fat, Heap, Calls, Loops, WpFn, Atoms, givenOf, Given, ‵, raw, _⊛_, _$_, _∵_, !, qed, by, move, use1, use2, split, rewrite, look, init, forget, stop, from, load, and-then, no-more, land, returns, enter, alloc1, alloc0, params1, pass1, pass0, free1, free0, FmC, Is, u8, ShrSlice, shr-slice-lawful, Triple, calls-at, cited}}
 use denote.Triple.Walked.{needs}
 use Rattle.sheet_reader.specs.declared.SheetReader.{SheetReader}
-use Rattle.sheet_reader.proofs.{Walking.{Stands, open-does, body-does, ReaderDoes, PartsDo, vbytes, Bytes, Own, parts-entry, typed, spelled, own-spelled, to-reader, to-parts, reader-asks, parts-ask-too, reader-back, parts-back, parts-post, parts-exits, stands, free, frames, parts-meet}, open.Symbol.{name as #open}, body.Symbol.{name as #body}, body_of.Key.{name as #body-of}}
+use Rattle.sheet_reader.proofs.{Walking.{Stands, open-does, body-does, ReaderDoes, PartsDo, vbytes, Bytes, Own, parts-entry, typed, spelled, own-spelled, to-reader, to-parts, reader-asks, parts-ask-too, reader-back, parts-back, parts-post, parts-exits, stands, free, frames, parts-meet}, open.Symbol.{name as #open, routine as opened}, open.Met.{met as open-met}, body.Symbol.{name as #body, routine as body}, body.Met.{met as body-met}, body_of.Key.{name as #body-of}, body_of.Statement.statement}
 use Rattle.sheet_reader.proofs.SheetReader.Laws as T′
-use Rattle.sheet_reader.proofs.open.Symbol as opn
-use Rattle.sheet_reader.proofs.open.Met as open-thm
-use Rattle.sheet_reader.proofs.body.Symbol as body
-use Rattle.sheet_reader.proofs.body.Met as body-thm
-use Rattle.sheet_reader.proofs.body_of.Statement as stated
 use Rattle.sheet_reader.proofs.body_of.Code as code
 
 module _ {M : Type 1} {𝓤 : URA M} {H : Heap 𝓤} {A : Atoms 𝓤} (W : Given 𝓤 H A) (C : Calls 𝓤 H) (Λ : Loops 𝓤 H) (fm : FmC 𝓤 H (W .laws) C) (known-open : Triple 𝓤 (C #open) (PartsDo 𝓤 H A (open-does 𝓤))) (known-body : Triple 𝓤 (C #body) (ReaderDoes 𝓤 H A (body-does 𝓤)))
@@ -32,9 +27,9 @@ module _ {M : Type 1} {𝓤 : URA M} {H : Heap 𝓤} {A : Atoms 𝓤} (W : Given
       returns ! (look ! 11 refl) $ forget ! 3 refl $ forget ! 5 refl $ forget ! 7 refl $ forget ! 9 refl $ forget ! 11 refl $
       move ! (11 ∷ 12 ∷ []) $ free1 ! $ move ! (9 ∷ 10 ∷ []) $ free1 ! $ move ! (7 ∷ 8 ∷ []) $ free1 ! $ move ! (5 ∷ 6 ∷ []) $ free1 ! $ move ! (3 ∷ 4 ∷ []) $ free1 ! $ free0 ! $ by ! (parts-exits W (body-does 𝓤) κ q d b u′ e′ row-fits at-fits))))))))))
 
-pub body-of-spec : {M : Type 1} → stated.statement M
+pub body-of-spec : {M : Type 1} → statement M
 unfolding code.routine
 body-of-spec 𝓤 H 𝓜 𝓖 𝓡 =
     parts-meet 𝓤 H 𝓜 𝓖 𝓡 code.env (body-does 𝓤) #body-of code.function (code.unfolded 𝓤 H 𝓜 𝓡) (λ κ q d p row-fits at-fits. needs 𝓤 _ _ (walk (givenOf 𝓤 H 𝓜 𝓖) _ _ (frames 𝓤 H 𝓜 𝓖 𝓡 code.env)
-    (cited 𝓤 H (PartsDo 𝓤 H (𝓖 .A) (open-does 𝓤)) 𝓜 𝓡 code.env #open opn.routine code.calls-sheet-reader·open (open-thm.met 𝓤 H 𝓜 𝓖 𝓡))
-    (cited 𝓤 H (ReaderDoes 𝓤 H (𝓖 .A) (body-does 𝓤)) 𝓜 𝓡 code.env #body body.routine code.calls-sheet-reader·body (body-thm.met 𝓤 H 𝓜 𝓖 𝓡)) κ q d p row-fits at-fits))
+    (cited 𝓤 H (PartsDo 𝓤 H (𝓖 .A) (open-does 𝓤)) 𝓜 𝓡 code.env #open opened code.calls-sheet-reader·open (open-met 𝓤 H 𝓜 𝓖 𝓡))
+    (cited 𝓤 H (ReaderDoes 𝓤 H (𝓖 .A) (body-does 𝓤)) 𝓜 𝓡 code.env #body body code.calls-sheet-reader·body (body-met 𝓤 H 𝓜 𝓖 𝓡)) κ q d p row-fits at-fits))

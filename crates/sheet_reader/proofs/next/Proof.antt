@@ -3,14 +3,11 @@
 use Rattle.rows.{proofs.Kit.{_≡_, refl, ap, _+_, _<_, _^_, [], _∷_, T as Holds, now}, proofs.Walks.{URA, fullShare, named, Val, WT, hasTy, ent, sep, Lft, Share, fat, Heap, Calls, Loops, WpFn, Atoms, givenOf, Given, ‵, raw, _⊛_, ⋆, _$_, _∵_, !, qed, by, move, drop, use1, split, rewrite, fsplit, whole, sub, look-in, agg, look, init, forget, stop, fld, from, load, of-opd, and-then, no-more, assigns, land, returns, enter, alloc1, alloc0, params1, pass1, pass0, free1, free0, FmC, Is, plain, only, Triple, calls-at, cited}}
 use Rattle.sheet.{specs.declared.Cursor.Cursor, specs.Walk.cursorAt}
 use Rattle.sheet_reader.specs.{Reading.readerAt, declared.SheetReader.SheetReader}
-use Rattle.sheet_reader.proofs.{Walking.{Does, at-row, next-does, PartsDo, Own, OwnParts, token, reader-entry, twice, opened, shut, to-parts, parts-ask, parts-back, reader-post, reader-exits, frames, reader-meets}, place_after.Symbol.{name as #place-after}, next.Key.{name as #next}}
+use Rattle.sheet_reader.proofs.{Walking.{Does, at-row, next-does, PartsDo, Own, OwnParts, token, reader-entry, twice, opened, shut, to-parts, parts-ask, parts-back, reader-post, reader-exits, frames, reader-meets}, place_after.Symbol.{name as #place-after, routine as place-after}, place_after.Met.{met as place-after-met}, next.Key.{name as #next}, next.Statement.statement}
 use denote.Struct.Laws as LL
 use Rattle.sheet_reader.proofs.SheetReader.Laws as T′
 use Rattle.sheet.proofs.Cursor as S
 use Rattle.sheet.proofs.Cursor.Laws as S′
-use Rattle.sheet_reader.proofs.place_after.Symbol as after
-use Rattle.sheet_reader.proofs.place_after.Met as after-thm
-use Rattle.sheet_reader.proofs.next.Statement as stated
 use Rattle.sheet_reader.proofs.next.Code as code
 
 abbrev after-does : {M : Type 1} (𝓤 : URA M) → Does 𝓤
@@ -52,8 +49,8 @@ module _ {M : Type 1} {𝓤 : URA M} {H : Heap 𝓤} {A : Atoms 𝓤} (W : Given
       returns ! (look ! 14 refl) $ forget ! 2 refl $ forget ! 4 refl $ forget ! 6 refl $ forget ! 8 refl $ forget ! 10 refl $ forget ! 12 refl $ forget ! 14 refl $
       move ! (14 ∷ 15 ∷ []) $ free1 ! $ move ! (12 ∷ 13 ∷ []) $ free1 ! $ move ! (10 ∷ 11 ∷ []) $ free1 ! $ move ! (8 ∷ 9 ∷ []) $ free1 ! $ move ! (6 ∷ 7 ∷ []) $ free1 ! $ move ! (4 ∷ 5 ∷ []) $ free1 ! $ move ! (2 ∷ 3 ∷ []) $ free1 ! $ free0 ! $ by ! (exits r u is e))))))))))
 
-pub next-spec : {M : Type 1} → stated.statement M
+pub next-spec : {M : Type 1} → statement M
 unfolding code.routine
 next-spec 𝓤 H 𝓜 𝓖 𝓡 =
     reader-meets 𝓤 H 𝓜 𝓖 𝓡 code.env (next-does 𝓤) #next code.function (code.unfolded 𝓤 H 𝓜 𝓡) (walk (givenOf 𝓤 H 𝓜 𝓖) _ _ (frames 𝓤 H 𝓜 𝓖 𝓡 code.env)
-    (cited 𝓤 H (PartsDo 𝓤 H (𝓖 .A) (after-does 𝓤)) 𝓜 𝓡 code.env #place-after after.routine code.calls-sheet-reader·place-after (after-thm.met 𝓤 H 𝓜 𝓖 𝓡)))
+    (cited 𝓤 H (PartsDo 𝓤 H (𝓖 .A) (after-does 𝓤)) 𝓜 𝓡 code.env #place-after place-after code.calls-sheet-reader·place-after (place-after-met 𝓤 H 𝓜 𝓖 𝓡)))

@@ -4,9 +4,8 @@
 use Rattle.rows.{proofs.Kit.{refl, _<_, _^_, [], _∷_}, proofs.Walks.{URA, named, w64, vint, ent, sep, Lft, Share, Heap, Calls, Loops, WpFn, Atoms, givenOf, Given, ‵, raw, _⊛_, _$_, _∵_, !, qed, by, move, use1, split, fsplit, agg, look, init, forget, stop, from, load, and-then, no-more, assigns, returns, enter, alloc1, alloc0, params1, pass1, pass0, free1, free0, Is, u8, ShrSlice, shr-slice-lawful}}
 use types.Kit.{keep}
 use Rattle.sheet_reader.specs.declared.SheetReader.{SheetReader}
-use Rattle.sheet_reader.proofs.{Walking.{open-does, vbytes, Bytes, Own, OwnParts, token, parts-entry, slice-twice, shut, parts-post, parts-exits, parts-meet}, open.Key.{name as #open}}
+use Rattle.sheet_reader.proofs.{Walking.{open-does, vbytes, Bytes, Own, OwnParts, token, parts-entry, slice-twice, shut, parts-post, parts-exits, parts-meet}, open.Key.{name as #open}, open.Statement.statement}
 use Rattle.sheet_reader.proofs.SheetReader.Laws as T′
-use Rattle.sheet_reader.proofs.open.Statement as stated
 use Rattle.sheet_reader.proofs.open.Code as code
 
 module _ {M : Type 1} {𝓤 : URA M} {H : Heap 𝓤} {A : Atoms 𝓤} (W : Given 𝓤 H A) (C : Calls 𝓤 H) (Λ : Loops 𝓤 H) (κ : Lft) (q : Share) (d : SheetReader) (p : Is (ShrSlice (named 0) κ u8) (d .bytes) (vbytes (d .bytes) ∷ [])) (row-fits : d .row < 2 ^ 64) (at-fits : d .at < 2 ^ 64) where
@@ -25,6 +24,6 @@ module _ {M : Type 1} {𝓤 : URA M} {H : Heap 𝓤} {A : Atoms 𝓤} (W : Given
       returns ! (look ! 6 refl) $ forget ! 0 refl $ forget ! 2 refl $ forget ! 4 refl $ forget ! 6 refl $
       move ! (6 ∷ 7 ∷ []) $ free1 ! $ move ! (4 ∷ 5 ∷ []) $ free1 ! $ move ! (2 ∷ 3 ∷ []) $ free1 ! $ free1 ! $ free0 ! $ by ! exits))))
 
-pub open-spec : {M : Type 1} → stated.statement M
+pub open-spec : {M : Type 1} → statement M
 unfolding code.routine
 open-spec 𝓤 H 𝓜 𝓖 𝓡 = parts-meet 𝓤 H 𝓜 𝓖 𝓡 code.env (open-does 𝓤) #open code.function (code.unfolded 𝓤 H 𝓜 𝓡) (walk (givenOf 𝓤 H 𝓜 𝓖) _ _)

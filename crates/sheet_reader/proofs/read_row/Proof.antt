@@ -3,20 +3,13 @@
 use Rattle.rows.{proofs.Kit.{_≡_, refl, ap, subst, _<_, _^_, [], _∷_, now}, proofs.Walks.{URA, fullShare, named, erased, w64, Val, vint, ent, Lft, Share, fat, Heap, Calls, Loops, WpFn, Atoms, givenOf, Given, ‵, raw, _⊛_, _$_, _∵_, !, qed, by, move, drop, use1, use2, split, rewrite, whole, sub, look-in, agg, look, init, forget, stop, fld, from, load, of-opd, and-then, no-more, assigns, land, returns, enter, alloc1, alloc0, params1, pass1, pass0, free1, free0, FmC, Is, u8, plain, ShrSlice, shr-slice-lawful, owned, only, Triple, calls-at, cited}}
 use denote.Triple.Walked.{needs}
 use Rattle.sheet_reader.specs.{Reading.{advanced, readRow}, declared.SheetReader.SheetReader, declared.SheetRow.SheetRow, declared.RowRead.RowRead}
-use Rattle.sheet_reader.proofs.{Walking.{B, Does, Stands, at-row, open-does, row-does, next-does, ReaderDoes, PartsDo, vbytes, Bytes, Own, D, L, parts-entry, twice, typed, spelled, is-spelled, own-spelled, to-reader, to-parts, reader-asks, parts-ask-too, reader-back, parts-back, parts-post, parts-exits, stands, free, frames, parts-meet}, open.Symbol.{name as #open}, row.Symbol.{name as #row}, next.Symbol.{name as #next}, read_row.Key.{name as #read-row}}
+use Rattle.sheet_reader.proofs.{Walking.{B, Does, Stands, at-row, open-does, row-does, next-does, ReaderDoes, PartsDo, vbytes, Bytes, Own, D, L, parts-entry, twice, typed, spelled, is-spelled, own-spelled, to-reader, to-parts, reader-asks, parts-ask-too, reader-back, parts-back, parts-post, parts-exits, stands, free, frames, parts-meet}, open.Symbol.{name as #open, routine as opened}, open.Met.{met as open-met}, row.Symbol.{name as #row, routine as row}, row.Met.{met as row-met}, next.Symbol.{name as #next, routine as next}, next.Met.{met as next-met}, read_row.Key.{name as #read-row}, read_row.Statement.statement}
 use denote.Struct.Laws as LL
 use Rattle.sheet_reader.proofs.SheetReader.Laws as T′
 use Rattle.sheet_reader.proofs.SheetRow as S
 use Rattle.sheet_reader.proofs.SheetRow.Laws as S′
 use Rattle.sheet_reader.proofs.RowRead as R
 use Rattle.sheet_reader.proofs.RowRead.Laws as R′
-use Rattle.sheet_reader.proofs.open.Symbol as opn
-use Rattle.sheet_reader.proofs.open.Met as open-thm
-use Rattle.sheet_reader.proofs.row.Symbol as row
-use Rattle.sheet_reader.proofs.row.Met as row-thm
-use Rattle.sheet_reader.proofs.next.Symbol as next
-use Rattle.sheet_reader.proofs.next.Met as next-thm
-use Rattle.sheet_reader.proofs.read_row.Statement as stated
 use Rattle.sheet_reader.proofs.read_row.Code as code
 
 abbrev read-does : {M : Type 1} (𝓤 : URA M) → Does 𝓤
@@ -68,10 +61,10 @@ module _ {M : Type 1} {𝓤 : URA M} {H : Heap 𝓤} {A : Atoms 𝓤} (W : Given
       move ! (10 ∷ 11 ∷ []) $ free1 ! $ move ! (8 ∷ 9 ∷ []) $ free1 ! $ move ! (6 ∷ 7 ∷ []) $ free1 ! $ move ! (4 ∷ 5 ∷ []) $ free1 ! $ move ! (2 ∷ 3 ∷ []) $ free1 ! $ free0 ! $
       owned ! R.the-row (Is R.the-row) (LL.makes R.the-type R′.the-plain 𝓤 H A) (out t) _ (out-is t u′ row-is (is-spelled W κ r′ u″ is′ d′ e″)) $ by ! (parts-exits W (read-does 𝓤) κ q d (out t) _ (ap out e′) row-fits at-fits))))))))))))))))))
 
-pub read-row-spec : {M : Type 1} → stated.statement M
+pub read-row-spec : {M : Type 1} → statement M
 unfolding code.routine
 read-row-spec 𝓤 H 𝓜 𝓖 𝓡 =
     parts-meet 𝓤 H 𝓜 𝓖 𝓡 code.env (read-does 𝓤) #read-row code.function (code.unfolded 𝓤 H 𝓜 𝓡) (λ κ q d p row-fits at-fits. needs 𝓤 _ _ (walk (givenOf 𝓤 H 𝓜 𝓖) _ _ (frames 𝓤 H 𝓜 𝓖 𝓡 code.env)
-    (cited 𝓤 H (PartsDo 𝓤 H (𝓖 .A) (open-does 𝓤)) 𝓜 𝓡 code.env #open opn.routine code.calls-sheet-reader·open (open-thm.met 𝓤 H 𝓜 𝓖 𝓡))
-    (cited 𝓤 H (ReaderDoes 𝓤 H (𝓖 .A) (row-does 𝓤)) 𝓜 𝓡 code.env #row row.routine code.calls-sheet-reader·row (row-thm.met 𝓤 H 𝓜 𝓖 𝓡))
-    (cited 𝓤 H (ReaderDoes 𝓤 H (𝓖 .A) (next-does 𝓤)) 𝓜 𝓡 code.env #next next.routine code.calls-sheet-reader·next (next-thm.met 𝓤 H 𝓜 𝓖 𝓡)) κ q d p row-fits at-fits))
+    (cited 𝓤 H (PartsDo 𝓤 H (𝓖 .A) (open-does 𝓤)) 𝓜 𝓡 code.env #open opened code.calls-sheet-reader·open (open-met 𝓤 H 𝓜 𝓖 𝓡))
+    (cited 𝓤 H (ReaderDoes 𝓤 H (𝓖 .A) (row-does 𝓤)) 𝓜 𝓡 code.env #row row code.calls-sheet-reader·row (row-met 𝓤 H 𝓜 𝓖 𝓡))
+    (cited 𝓤 H (ReaderDoes 𝓤 H (𝓖 .A) (next-does 𝓤)) 𝓜 𝓡 code.env #next next code.calls-sheet-reader·next (next-met 𝓤 H 𝓜 𝓖 𝓡)) κ q d p row-fits at-fits))
