@@ -1,35 +1,29 @@
--- What the sheet reader reads of a row that is there, and at a cursor that stands at a row: that row's kind and body, and the cursor at the row after it.
+-- What is known of a row that the sheet reader reads where its body may end behind the sheet: it is there, or it has no kind.
 -- Assumes nothing.
-use Rattle.rows.{proofs.Kit.{_≡_, refl, sym, ap, _∙_, Bool, true, false, not, not-false, List, ℕ, zero, suc, _+_, _*_, _<_, _≤_, arith, leb, length, take, drop, leb-true, le-leb}, proofs.Bools.and-parts}
+use Rattle.rows.proofs.Kit.{_≡_, refl, ap, Bool, true, false, List, ℕ, zero, suc, _+_, _<_, _≤_, arith, leb, length, take, drop, leb-true, le-leb}
 use Rattle.igvm_defs.specs.Kinds.{kindOf, spans}
-use Rattle.sheet.{specs.declared.Cursor.Cursor, specs.Head.{headOf, rowCount}, specs.Table.{rowKind, rowLength, offsetOf, bodyOf}, specs.Walk.{cursorAt, AtRow, ReadTo}, proofs.Readable.{RowOk, offset-next}, proofs.ReadLaws.read-more}
-use Rattle.sheet_reader.specs.{declared.SheetRow.SheetRow, Reading.{inSheet, readAt, bodyAt, placeAfter, cursorAfter}}
+use Rattle.sheet.{specs.declared.Cursor.Cursor, specs.Head.{headOf, rowCount}, specs.Table.{rowKind, rowLength, offsetOf, bodyOf}, specs.Walk.ReadTo, proofs.Readable.RowOk, proofs.ReadLaws.read-more}
+use Rattle.sheet_reader.specs.{declared.SheetRow.SheetRow, Reading.{readAt, cursorAfter}}
 
--- the row is there: the table has it, it is r, and its body lies in the sheet
+-- the row is there: it is r, and its body lies in the sheet
 pub record Found (s : List ℕ) (row at : ℕ) (r : SheetRow) : Type 0 where
-  pub table : 24 + 8 * row ≤ length s
   pub kind : r .kind ≡ rowKind s row
   pub size : r .length ≡ rowLength s row
   pub room : at + r .length ≤ length s
 
 module _ (s : List ℕ) (row at : ℕ) where
-  pub found : inSheet s row at ≡ true → Found s row at (readAt s row at)
-  unfolding inSheet readAt
-  found h =
-      let (table, room) = and-parts (leb (24 + 8 * row) (length s)) _ h in
-      rw h (record { table = leb-true _ _ table; kind = refl; size = refl; room = leb-true _ _ room })
-
-  -- past the test of `in_sheet`
-  pub found-past : {b : Bool} → b ≡ inSheet s row at → not b ≡ false → Found s row at (readAt s row at)
-  found-past {b = b} e left = found (sym e ∙ not-false b left)
+  -- a row that the sheet has room for is there
+  pub room-found : at + rowLength s row ≤ length s → Found s row at (readAt s row at)
+  unfolding readAt
+  room-found room = rw (le-leb _ _ room) (record { kind = refl; size = refl; room = room })
 
   -- a row of some kind is there
   pub kind-found : (r : SheetRow) → r ≡ readAt s row at → 0 < r .kind → Found s row at r
   unfolding readAt
-  kind-found r e = rw e (go (inSheet s row at) refl)
+  kind-found r e = rw e (go (leb (at + rowLength s row) (length s)) refl)
     where
-      go : (b : Bool) → inSheet s row at ≡ b → 0 < readAt s row at .kind → Found s row at (readAt s row at)
-      go true h l = found h
+      go : (b : Bool) → leb (at + rowLength s row) (length s) ≡ b → 0 < readAt s row at .kind → Found s row at (readAt s row at)
+      go true h l = room-found (leb-true _ _ h)
       go false h l = absurd (let none : 0 < 0 = rw h at l in omega arith)
 
   -- a row of a kind that some list has is there
@@ -44,21 +38,13 @@ module _ (s : List ℕ) (row at : ℕ) where
   -- what is read lies in the sheet
   pub read-room : (r : SheetRow) → r ≡ readAt s row at → at ≤ length s → at + r .length ≤ length s
   unfolding readAt
-  read-room r e l = rw e (go (inSheet s row at) refl)
+  read-room r e l = rw e (go (leb (at + rowLength s row) (length s)) refl)
     where
-      go : (b : Bool) → inSheet s row at ≡ b → at + readAt s row at .length ≤ length s
-      go true h = found h .room
+      go : (b : Bool) → leb (at + rowLength s row) (length s) ≡ b → at + readAt s row at .length ≤ length s
+      go true h = rw h (leb-true _ _ h)
       go false h = rw h (omega arith)
 
-  -- a row that table and sheet have room for is there
-  in-sheet : 24 + 8 * row ≤ length s → at + rowLength s row ≤ length s → inSheet s row at ≡ true
-  unfolding inSheet
-  in-sheet table room = rw (le-leb _ _ table, le-leb _ _ room)
-
-  pub room-found : 24 + 8 * row ≤ length s → at + rowLength s row ≤ length s → Found s row at (readAt s row at)
-  room-found table room = found (in-sheet table room)
-
--- ---- as far as the rows were read: the body's part of the sheet is the row's body, and one row more
+-- ---- as far as the rows were read: the row's room, and one row more
 
 module _ (s : List ℕ) (c : Cursor) (read : ReadTo s c) (r : SheetRow) (f : Found s (c .row) (c .at) r) where
   pub room-row : offsetOf s (c .row) + rowLength s (c .row) ≤ length s
@@ -70,20 +56,3 @@ module _ (s : List ℕ) (c : Cursor) (read : ReadTo s c) (r : SheetRow) (f : Fou
 
   pub read-after : c .row < rowCount (headOf s) → RowOk s (c .row) → ReadTo s (cursorAfter c r)
   read-after l ok = rw (f .size) (read-more s c read l ok)
-
--- ---- at a cursor that stands at a row
-
-module _ (s : List ℕ) (c : Cursor) (h : AtRow s c) where
-  in-sheet-cursor : inSheet s (c .row) (c .at) ≡ true
-  in-sheet-cursor = in-sheet s (c .row) (c .at) (h .table) (h .room)
-
-  pub kind-at-cursor : readAt s (c .row) (c .at) .kind ≡ rowKind s (c .row)
-  kind-at-cursor = found s (c .row) (c .at) in-sheet-cursor .kind
-
-  pub body-at-cursor : bodyAt s (c .row) (c .at) ≡ bodyOf s (c .row)
-  unfolding bodyAt bodyOf
-  body-at-cursor = rw (in-sheet-cursor, h .offset)
-
-  pub place-after-cursor : placeAfter s (c .row) (c .at) ≡ cursorAt s (c .row + 1)
-  unfolding placeAfter
-  place-after-cursor = rw (in-sheet-cursor, h .offset, offset-next s (c .row))

@@ -7,7 +7,7 @@ ghost use Rattle.sheet.specs.Head.{limits, headOf, rowCount};
 ghost use Rattle.sheet.specs.Table.{rowKind, bodyOf};
 ghost use Rattle.sheet.specs.Read.{Readable};
 ghost use Rattle.sheet.specs.Walk.{cursorAt, AtRow};
-ghost use Rattle.sheet_reader.specs.Reading.{inSheet, readAt, bodyAt, placeAfter, cursorAfter, readerAt, advanced, readRow};
+ghost use Rattle.sheet_reader.specs.Reading.{rowOf, readAt, cursorAfter, readerAt, advanced, readRow};
 use sheet::Cursor;
 use sheet::SheetHead;
 
@@ -59,54 +59,32 @@ pub fn after(c: Cursor, r: SheetRow) -> Cursor
     }
 }
 
-// ---- at any place: a row, from 0, and where its body starts
-
-// Whether the row stands in the table and its body in the sheet.
-fn in_sheet(s: &[u8], row: usize, at: usize) -> bool
-    ensures { λ r. ⌜ r ≡ inSheet (now (s .entry)) row at ⌝ }
-{
-    let n = s.len();
-    if n < 24 {
-        return false;
-    }
-    if (n - 24) / 8 < row {
-        return false;
-    }
-    if n < at {
-        return false;
-    }
-    sheet::length_at(s, row) <= n - at
-}
+// ---- at a row of a sheet, from 0, and where its body starts: nothing is tested
 
 pub fn row_at(s: &[u8], row: usize, at: usize) -> SheetRow
-    ensures { λ r. ⌜ r ≡ readAt (now (s .entry)) row at ⌝ }
+    requires { ⌜ AtRow (now s) (record { row = row; at = at }) ⌝ }
+    ensures { λ r. ⌜ r ≡ rowOf (now (s .entry)) row ⌝ }
 {
-    if !in_sheet(s, row, at) {
-        return SheetRow { kind: 0, length: 0 };
+    SheetRow {
+        kind: sheet::kind_at(s, row),
+        length: sheet::length_at(s, row),
     }
-    row_from(s, Cursor { row, at })
 }
 
-// The body's part of the sheet; empty where there is no row.
+// The body's part of the sheet.
 pub fn body_at(s: &[u8], row: usize, at: usize) -> &[u8]
-    ensures { λ r. ⌜ now r ≡ bodyAt (now (s .entry)) row at ⌝ }
+    requires { ⌜ AtRow (now s) (record { row = row; at = at }) ⌝ }
+    ensures { λ r. ⌜ now r ≡ bodyOf (now (s .entry)) row ⌝ }
 {
-    if !in_sheet(s, row, at) {
-        return &s[0..0];
-    }
-    let c = Cursor { row, at };
-    body_from(s, c, row_from(s, c))
+    body_from(s, Cursor { row, at }, row_at(s, row, at))
 }
 
-// The row after it and where that one's body starts; the same place where there is no row.
+// The row after it and where that one's body starts.
 pub fn place_after(s: &[u8], row: usize, at: usize) -> Cursor
-    ensures { λ r. ⌜ r ≡ placeAfter (now (s .entry)) row at ⌝ }
+    requires { ⌜ AtRow (now s) (record { row = row; at = at }) ⌝ }
+    ensures { λ r. ⌜ r ≡ cursorAt (now (s .entry)) (row + 1) ⌝ }
 {
-    let c = Cursor { row, at };
-    if !in_sheet(s, row, at) {
-        return c;
-    }
-    after(c, row_from(s, c))
+    after(Cursor { row, at }, row_at(s, row, at))
 }
 
 // ---- the reader
@@ -119,20 +97,23 @@ pub fn open<'a>(bytes: &'a [u8], row: usize, at: usize) -> SheetReader<'a>
 
 // The row that the reader stands at.
 pub fn row<'a>(r: SheetReader<'a>) -> SheetRow
-    ensures { λ x. ⌜ x ≡ readAt (now (r .entry .bytes)) (r .entry .row) (r .entry .at) ⌝ }
+    requires { ⌜ AtRow (now (r .bytes)) (record { row = r .row; at = r .at }) ⌝ }
+    ensures { λ x. ⌜ x ≡ rowOf (now (r .entry .bytes)) (r .entry .row) ⌝ }
 {
     row_at(r.bytes, r.row, r.at)
 }
 
 // Its body's part of the sheet.
 pub fn body<'a>(r: SheetReader<'a>) -> &'a [u8]
-    ensures { λ s. ⌜ now s ≡ bodyAt (now (r .entry .bytes)) (r .entry .row) (r .entry .at) ⌝ }
+    requires { ⌜ AtRow (now (r .bytes)) (record { row = r .row; at = r .at }) ⌝ }
+    ensures { λ s. ⌜ now s ≡ bodyOf (now (r .entry .bytes)) (r .entry .row) ⌝ }
 {
     body_at(r.bytes, r.row, r.at)
 }
 
 // The reader at the row after it.
 pub fn next<'a>(r: SheetReader<'a>) -> SheetReader<'a>
+    requires { ⌜ AtRow (now (r .bytes)) (record { row = r .row; at = r .at }) ⌝ }
     ensures { λ q. ⌜ q ≡ advanced (r .entry) ⌝ }
 {
     let p = place_after(r.bytes, r.row, r.at);
@@ -153,7 +134,8 @@ pub struct RowRead {
 }
 
 pub fn read_row(s: &[u8], k: usize, at: usize) -> RowRead
-    ensures { λ r. ⌜ r ≡ readRow (now (s .entry)) k at ⌝ }
+    requires { ⌜ AtRow (now s) (record { row = k; at = at }) ⌝ }
+    ensures { λ r. ⌜ r ≡ readRow (now (s .entry)) k ⌝ }
 {
     let r = open(s, k, at);
     let what = row(r);
@@ -166,7 +148,8 @@ pub fn read_row(s: &[u8], k: usize, at: usize) -> RowRead
 }
 
 pub fn body_of<'a>(s: &'a [u8], k: usize, at: usize) -> &'a [u8]
-    ensures { λ r. ⌜ now r ≡ bodyAt (now (s .entry)) k at ⌝ }
+    requires { ⌜ AtRow (now s) (record { row = k; at = at }) ⌝ }
+    ensures { λ r. ⌜ now r ≡ bodyOf (now (s .entry)) k ⌝ }
 {
     body(open(s, k, at))
 }

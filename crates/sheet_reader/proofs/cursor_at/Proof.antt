@@ -1,4 +1,4 @@
-use Rattle.rows.proofs.Kit.{_≡_, _≤_, _-_, arith, needs, now}
+use Rattle.rows.proofs.Kit.{_≡_, _≤_, _-_, arith, needs}
 use Rattle.sheet.{specs.Head.limits, specs.Walk.cursorAt, proofs.Readable.{offset-first, readable-bounds, at-row}}
 use Rattle.sheet_reader.proofs.cursor_at.Statement.{statement}
 use Rattle.sheet_reader.proofs.cursor_at.Tie as tie
@@ -10,33 +10,24 @@ abbrev μ-loop : tie.MeasureT-loop
 μ-loop s k c₀ i₀ c i = k - i
 
 new-requires : tie.Need-new-requires Inv-loop μ-loop
-new-requires c κs = let b = readable-bounds (now (c .before .args .s)) (c .before .pre .0) in omega arith
+new-requires c κs = let b = readable-bounds _ (c .before .pre .0) in omega arith
 
 new-requires-2 : tie.Need-new-requires-2 Inv-loop μ-loop
-new-requires-2 c κs =
-    let st = c .before .before .before in let b = readable-bounds (now (st .args .s)) (st .pre .0) in
-    rw (c .rows .ensures, c .before .new .ensures) (omega arith)
+new-requires-2 c κs = let b = readable-bounds _ (c .before .before .before .pre .0) in rw (c .rows .ensures, c .before .new .ensures) (omega arith)
 
 loop-holds : tie.Need-loop-holds Inv-loop μ-loop
-loop-holds c =
-    let s = now (c .before .before .before .before .args .s) in
-    (omega arith, rw (c .new2 .ensures, c .before .rows .ensures, c .before .before .new .ensures, offset-first s))
+loop-holds c = (omega arith, rw (c .new2 .ensures, c .before .rows .ensures, c .before .before .new .ensures, offset-first _))
 
 cursor-row-requires : tie.Need-cursor-row-requires Inv-loop μ-loop
-cursor-row-requires c κs =
-    let l = c .before .loop in let st = c .before .before .before .before .before .before in
-    rw (l .inv .1) (at-row limits (now (st .args .s)) (st .pre .0) (l .i) (omega arith))
+cursor-row-requires c κs = let l = c .before .loop in rw (l .inv .1) (at-row limits _ (c .before .before .before .before .before .before .pre .0) (l .i) (omega arith))
 
 loop-again : tie.Need-loop-again Inv-loop μ-loop
-loop-again c = let l = c .before .before .before .loop in (omega arith, rw (c .before .cursor-row .ensures .1, l .inv .1))
+loop-again c = (omega arith, rw (c .before .cursor-row .ensures .1, c .before .before .before .loop .inv .1))
 
 returns : tie.Need-returns Inv-loop μ-loop
-returns c =
-    let l = c .before .loop in
-    let z : l .i ≡ c .before .before .before .before .before .before .args .k = omega arith in
-    rw (l .inv .1, z)
+returns c = let z : c .before .loop .i ≡ c .before .before .before .before .before .before .args .k = omega arith in rw (c .before .loop .inv .1, z)
 
 pub cursor-at-spec : {M : Type 1} → statement M
 cursor-at-spec =
-    tie.close (tie.spec Inv-loop μ-loop new-requires (λ c κs. search needs) new-requires-2 loop-holds cursor-row-requires
-    (λ c. search needs) (λ c. search needs) loop-again returns)
+    tie.close (tie.spec Inv-loop μ-loop new-requires (λ c κs. search needs) new-requires-2 loop-holds cursor-row-requires (λ c. search needs)
+    (λ c. search needs) loop-again returns)

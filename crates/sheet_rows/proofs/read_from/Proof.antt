@@ -23,7 +23,7 @@ there c =
     let t = c .before .before .before .before .before .before .if1 .taken in
     let o = ap (λ (x : Cursor). x .at) (c .before .before .before .before .before .before .before .before .loop .inv .at) in
     let room = fine c .room in
-    room-found _ _ _ (omega arith) (omega arith)
+    room-found _ _ _ (omega arith)
 
 row-fault-requires : tie.Need-row-fault-requires Inv-loop μ-loop
 row-fault-requires c κs =
@@ -73,5 +73,5 @@ pub read-from-spec : {M : Type 1} → statement M
 read-from-spec =
     tie.close (tie.spec Inv-loop μ-loop (λ c κs. search needs) (λ c κs. search needs) (λ c. c .before .before .before .pre .2)
     (λ c κs. omega arith) (λ c κs. search needs) (λ c. search needs) (λ c. search needs) row-fault-requires (λ c κs. search needs)
-    (λ c. search needs) (λ c κs. search needs) returns (λ c κs. let f = there c in (f .table, omega arith)) after-requires
+    (λ c. search needs) (λ c κs. search needs) returns (λ c κs. search needs) after-requires
     past-pages-requires loop-less (λ c. c .past-pages .ensures .0) (λ c κs. search needs) (λ c κs. search needs) returns-2)
