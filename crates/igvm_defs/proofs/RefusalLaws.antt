@@ -2,7 +2,7 @@
 -- Assumes nothing.
 use lib.Dec.{eqb·suc-zero}
 use Rattle.rows.{proofs.Kit.{_≡_, refl, ap, Bool, true, false, not, cond, _||_, Option, none, some, ℕ, suc, _+_, _<_, arith, ne-eqb}, specs.Below.{anyBelow, firstBelow}, proofs.BelowLaws.{any-below, none-any, first-any, first-at, first-says}}
-use Rattle.igvm_defs.specs.{declared.Refusal.Refusal, declared.Fault.Fault, Refusals.{refusal, noRefusal, fault, noFault, refuse, orFault, isFault, isRefusal, inRow, orElse, refusalAt, firstFault}}
+use Rattle.igvm_defs.specs.{declared.Refusal.Refusal, declared.Fault.Fault, Refusals.{refusal, noRefusal, fault, noFault, refuse, orFault, Then, isFault, isRefusal, inRow, orElse, refusalAt, firstFault}}
 
 -- ---- whether there is a fault, a refusal
 pub no-fault : isFault noFault ≡ false
@@ -40,6 +40,9 @@ or-then f n d b l more = go (isFault f) b refl
     go true c q = rw q
     go false true q = rw (ne-eqb n 0 (λ e. omega arith))
     go false false q = refl
+
+pub is-then : (f : Fault) (n d : ℕ) (b : Bool) (r : Fault) → 0 < n → r ≡ orFault f (refuse b (fault n d) noFault) → Then f n d b r
+is-then f n d b r l e = record { is = e; later = λ more. rw e (or-then f n d b l more) }
 
 -- ---- which refusal
 pub no-fault-row : (row : ℕ) (f : Fault) → isFault f ≡ false → inRow row f ≡ noRefusal

@@ -70,7 +70,13 @@ impl Fault {
         requires { ⌜ 0 < number ⌝ }
         ensures { λ r. ⌜ Then self number detail test r ⌝ }
     {
-        or_fault(self, refuse(test, number, detail, Fault::NONE))
+        if self.number != 0 {
+            return self;
+        }
+        if test {
+            return Fault { number, detail };
+        }
+        Fault::NONE
     }
 
     // The refusal that a fault of this row is.
