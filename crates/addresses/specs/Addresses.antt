@@ -2,6 +2,7 @@
 use Prim.Native.Nat.{ℕ, _+_, _%_}
 use mathlib.Core.Bool.{Bool, _&&_}
 use lib.Dec.{eqb, leb, ltb}
+use Rattle.igvm_defs.specs.Revision.{pageSize}
 
 -- x is a multiple of a; of 0 only 0 is
 unfoldable pub isMultiple : ℕ → ℕ → Bool
@@ -9,7 +10,7 @@ isMultiple x a = eqb (x % a) 0
 
 -- on a page boundary
 abbrev pub onPage : ℕ → Bool
-onPage x = isMultiple x 4096
+onPage x = isMultiple x pageSize
 
 -- an address is contained from base up to, not including, base + size
 unfoldable pub contains : ℕ → ℕ → ℕ → Bool

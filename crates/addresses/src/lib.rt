@@ -2,7 +2,7 @@
 ghost use mathlib.Core.Path.{_≡_};
 ghost use Prim.Native.Nat.{_+_};
 ghost use lib.Dec.{leb, ltb};
-ghost use Rattle.addresses.specs.Addresses.{isMultiple, contains, meets, endsBeyond, baseValid};
+ghost use Rattle.addresses.specs.Addresses.{isMultiple, onPage, contains, meets, endsBeyond, baseValid};
 
 // x is a multiple of a; of 0 only 0 is.
 pub fn is_multiple(x: u64, a: u64) -> bool
@@ -16,9 +16,9 @@ pub fn is_multiple(x: u64, a: u64) -> bool
 
 // On a page boundary.
 pub fn on_page(x: u64) -> bool
-    ensures { λ r. ⌜ r ≡ isMultiple x 4096 ⌝ }
+    ensures { λ r. ⌜ r ≡ onPage x ⌝ }
 {
-    x % 4096 == 0
+    x % igvm_defs::PAGE_SIZE_4K == 0
 }
 
 // a < b + n, with no sum that could wrap.

@@ -17,7 +17,7 @@ pub fn page_data(b: &[u8]) -> bool
     if 4114 < n {
         return false;
     }
-    le::u64_at(b, 0) % 4096 + ((le::u16_at(b, 16) / 4) as u64) == 0
+    le::u64_at(b, 0) % igvm_defs::PAGE_SIZE_4K + ((le::u16_at(b, 16) / 4) as u64) == 0
 }
 
 // 33: its bytes on a page, and no more initial data than that.

@@ -33,7 +33,7 @@ pub fn validate(h: IgvmDirectiveHeader) -> Fault
         } => Fault::NONE
             .or(21, gpa, !addresses::on_page(gpa))
             .or(30, 0, 3 < data_type)
-            .or(31, 0, 4096 < data),
+            .or(31, 0, (igvm_defs::PAGE_SIZE_4K as usize) < data),
         IgvmDirectiveHeader::ParameterArea {
             number_of_bytes,
             initial_data,

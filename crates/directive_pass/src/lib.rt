@@ -4,7 +4,7 @@ ghost use mathlib.Core.Bool.{false};
 ghost use Prim.Native.Nat.{_+_, _-_, _<_, _≤_};
 ghost use Rattle.rows.specs.Below.{anyBelow};
 ghost use Rattle.igvm_defs.specs.Refusals.{isFault};
-ghost use Rattle.sheet.specs.Head.{limits, headOf, firstDirective, rowCount};
+ghost use Rattle.sheet.specs.Head.{initializationRows, limits, headOf, firstDirective, rowCount};
 ghost use Rattle.sheet.specs.Read.{Readable};
 ghost use Rattle.sheet.specs.Walk.{cursorAt};
 ghost use Rattle.sheet_headers.specs.Headers.{sheetHeaders};
@@ -78,7 +78,7 @@ fn bad_area(s: &[u8], head: SheetHead, c: Cursor, i: usize) -> bool
 
 // 34: some region has a VP index other than 0, or no context.
 fn no_matching_vp_context(regions: RelocRegions, contexts: [u32; 3]) -> bool
-    requires { ⌜ regions .count ≤ 64 ⌝ }
+    requires { ⌜ regions .count ≤ initializationRows ⌝ }
     ensures { λ r. ⌜ r ≡ anyRegion (lacksContext contexts) regions ⌝ }
 {
     let n = regions.count;
@@ -101,14 +101,14 @@ fn no_matching_vp_context(regions: RelocRegions, contexts: [u32; 3]) -> bool
 
 // 33: an insert at an address in a page table, under a shared bit. The record's arrays have n regions.
 fn inside_table<'a>(
-    masks: &'a [u32; 64],
-    gpas: &'a [u64; 64],
-    sizes: &'a [u64; 64],
-    tables: &'a [bool; 64],
+    masks: &'a [u32; SheetHead::INITIALIZATION_ROWS],
+    gpas: &'a [u64; SheetHead::INITIALIZATION_ROWS],
+    sizes: &'a [u64; SheetHead::INITIALIZATION_ROWS],
+    tables: &'a [bool; SheetHead::INITIALIZATION_ROWS],
     n: usize,
     h: IgvmDirectiveHeader,
 ) -> bool
-    requires { ⌜ n ≤ 64 ⌝ }
+    requires { ⌜ n ≤ initializationRows ⌝ }
     ensures { λ r. ⌜ ((xs : Rows IgvmInitializationHeader) → HoldsTables (now (masks .entry)) (now (gpas .entry)) (now (sizes .entry)) (now (tables .entry)) n xs → r ≡ insideTable xs h) ⌝ }
 {
     match h {

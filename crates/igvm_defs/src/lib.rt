@@ -8,6 +8,9 @@ ghost use Rattle.igvm_defs.specs.Platforms.{platformTypeOf, isPlatformTy
 ghost use Rattle.igvm_defs.specs.Revision.{archOf, pageSizeOf, isX64, isAArch64};
 ghost use Rattle.igvm_defs.specs.Vtls.{vtlOf, vtlNumber};
 
+// The one page size that files have.
+pub const PAGE_SIZE_4K: u64 = 4096;
+
 // ---- refusals
 
 // A refusal's number, the row that it names (from 1; 0 for the sheet as a whole) and its detail. All 0 where nothing is refused.
@@ -420,7 +423,7 @@ impl IgvmRevision {
         ensures { λ r. ⌜ r ≡ pageSizeOf self ⌝ }
     {
         match self {
-            IgvmRevision::V1 => 4096,
+            IgvmRevision::V1 => PAGE_SIZE_4K,
             IgvmRevision::V2 { arch: _, page_size } => page_size as u64,
         }
     }

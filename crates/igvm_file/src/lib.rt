@@ -39,13 +39,14 @@ fn judge_many(s: &[u8], head: SheetHead) -> Verdict
     requires { ⌜ (isFault (startFault limits (now s)) ≡ false) × (head ≡ headOf (now s)) ⌝ }
     ensures { λ r. ⌜ r ≡ verdictOf limits (now (s .entry)) ⌝ }
 {
-    let mut masks: [u32; 64] = [0; 64];
-    let mut gpas: [u64; 64] = [0; 64];
-    let mut sizes: [u64; 64] = [0; 64];
-    let mut vps: [u16; 64] = [0; 64];
-    let mut vtls: [u8; 64] = [0; 64];
-    let mut tables: [bool; 64] = [false; 64];
-    let mut rows: [u16; 64] = [0; 64];
+    let mut masks: [u32; SheetHead::INITIALIZATION_ROWS] = [0; SheetHead::INITIALIZATION_ROWS];
+    let mut gpas: [u64; SheetHead::INITIALIZATION_ROWS] = [0; SheetHead::INITIALIZATION_ROWS];
+    let mut sizes: [u64; SheetHead::INITIALIZATION_ROWS] = [0; SheetHead::INITIALIZATION_ROWS];
+    let mut vps: [u16; SheetHead::INITIALIZATION_ROWS] = [0; SheetHead::INITIALIZATION_ROWS];
+    let mut vtls: [u8; SheetHead::INITIALIZATION_ROWS] = [0; SheetHead::INITIALIZATION_ROWS];
+    let mut tables: [bool; SheetHead::INITIALIZATION_ROWS] =
+        [false; SheetHead::INITIALIZATION_ROWS];
+    let mut rows: [u16; SheetHead::INITIALIZATION_ROWS] = [0; SheetHead::INITIALIZATION_ROWS];
     let mut contexts: [u32; 3] = [0; 3];
     judge::judge(
         s,

@@ -4,7 +4,7 @@ ghost use mathlib.Core.Path.{_≡_};
 ghost use Prim.Native.Nat.{_+_, _≤_};
 ghost use lib.ListN.{length};
 ghost use Rattle.igvm_defs.specs.Revision.{isX64};
-ghost use Rattle.sheet.specs.Head.{headOf, bodiesAt};
+ghost use Rattle.sheet.specs.Head.{platformRows, initializationRows, headOf, bodiesAt};
 ghost use Rattle.sheet.specs.Walk.{ReadTo};
 ghost use Rattle.sheet_headers.specs.Headers.{sheetHeaders};
 ghost use Rattle.initialization_check.specs.Record.{regionsIn};
@@ -36,7 +36,7 @@ pub fn accept<'a>(
     rows: &'a mut [u16],
 ) -> InitializationsReached
     requires { ⌜ (bodiesAt (headOf (now s)) ≤ length (now s)) × ReadTo (now s) from × (from .row ≡ headOf (now s) .platforms) × (end ≡ headOf (now s) .platforms + headOf (now s) .initializations) ⌝ }
-    requires { ⌜ (headOf (now s) .platforms ≤ 16) × (headOf (now s) .initializations ≤ 64) × (x64 ≡ isX64 (sheetHeaders (now s) .arch)) × HoldsCca cca (sheetHeaders (now s) .platforms) ⌝ }
+    requires { ⌜ (headOf (now s) .platforms ≤ platformRows) × (headOf (now s) .initializations ≤ initializationRows) × (x64 ≡ isX64 (sheetHeaders (now s) .arch)) × HoldsCca cca (sheetHeaders (now s) .platforms) ⌝ }
     requires { ⌜ (headOf (now s) .initializations ≤ length (now masks)) × (headOf (now s) .initializations ≤ length (now gpas)) × (headOf (now s) .initializations ≤ length (now sizes)) × (headOf (now s) .initializations ≤ length (now vps)) × (headOf (now s) .initializations ≤ length (now vtls)) × (headOf (now s) .initializations ≤ length (now tables)) × (headOf (now s) .initializations ≤ length (now rows)) ⌝ }
     ensures { λ r. ⌜ InitializationsAccepted (now (s .entry)) (regionsIn (now (masks .exit)) (now (gpas .exit)) (now (sizes .exit)) (now (vps .exit)) (now (vtls .exit)) (now (tables .exit)) (r .count)) (now (rows .exit)) (r .at) ⌝ }
 {

@@ -4,6 +4,7 @@ ghost use mathlib.Core.Bool.{true, not, cond, _&&_};
 ghost use mathlib.Core.Option.{none, some};
 ghost use Prim.Native.Nat.{ℕ, _≤_};
 ghost use lib.ListN.{length};
+ghost use Rattle.sheet.specs.Head.{platformRows, initializationRows};
 ghost use Rattle.rows.specs.Rows.{Rows, before};
 ghost use Rattle.platform_header.specs.declared.IgvmPlatformHeader.{IgvmPlatformHeader};
 ghost use Rattle.initialization_header.specs.declared.IgvmInitializationHeader.{IgvmInitializationHeader};
@@ -23,6 +24,7 @@ use igvm_defs::Vtl;
 use initialization_header::IgvmInitializationHeader;
 use platform_check::Platforms;
 use rules::Region;
+use sheet::SheetHead;
 
 // 17, 18, 19 and 20 (gpa, minimum, maximum): a relocatable region alone.
 pub fn validate_region(alignment: u64, gpa: u64, size: u64, minimum: u64, maximum: u64) -> Fault
@@ -90,12 +92,12 @@ pub fn validate(h: IgvmInitializationHeader) -> Fault
 
 // The regions read so far: the first `count` of each array.
 pub struct RelocRegions {
-    pub mask: [u32; 64],
-    pub gpa: [u64; 64],
-    pub size: [u64; 64],
-    pub vp_index: [u16; 64],
-    pub vtl: [u8; 64],
-    pub page_table: [bool; 64],
+    pub mask: [u32; SheetHead::INITIALIZATION_ROWS],
+    pub gpa: [u64; SheetHead::INITIALIZATION_ROWS],
+    pub size: [u64; SheetHead::INITIALIZATION_ROWS],
+    pub vp_index: [u16; SheetHead::INITIALIZATION_ROWS],
+    pub vtl: [u8; SheetHead::INITIALIZATION_ROWS],
+    pub page_table: [bool; SheetHead::INITIALIZATION_ROWS],
     pub count: usize,
 }
 
@@ -178,12 +180,12 @@ impl RelocRegions {
         ensures { λ r. ⌜ r .count ≡ 0 ⌝ }
     {
         RelocRegions {
-            mask: [0; 64],
-            gpa: [0; 64],
-            size: [0; 64],
-            vp_index: [0; 64],
-            vtl: [0; 64],
-            page_table: [false; 64],
+            mask: [0; SheetHead::INITIALIZATION_ROWS],
+            gpa: [0; SheetHead::INITIALIZATION_ROWS],
+            size: [0; SheetHead::INITIALIZATION_ROWS],
+            vp_index: [0; SheetHead::INITIALIZATION_ROWS],
+            vtl: [0; SheetHead::INITIALIZATION_ROWS],
+            page_table: [false; SheetHead::INITIALIZATION_ROWS],
             count: 0,
         }
     }
@@ -196,13 +198,13 @@ pub fn check<'a>(
     platforms: Platforms,
     h: IgvmInitializationHeader,
     reach: Reach,
-    masks: &'a [u32; 64],
-    gpas: &'a [u64; 64],
-    sizes: &'a [u64; 64],
-    tables: &'a [bool; 64],
+    masks: &'a [u32; SheetHead::INITIALIZATION_ROWS],
+    gpas: &'a [u64; SheetHead::INITIALIZATION_ROWS],
+    sizes: &'a [u64; SheetHead::INITIALIZATION_ROWS],
+    tables: &'a [bool; SheetHead::INITIALIZATION_ROWS],
     n: usize,
 ) -> InitializationStep
-    requires { ⌜ (n ≤ 64) × (platforms .count ≤ 16) ⌝ }
+    requires { ⌜ (n ≤ initializationRows) × (platforms .count ≤ platformRows) ⌝ }
     ensures { λ r. ⌜ ((ps : Rows IgvmPlatformHeader) (xs : Rows IgvmInitializationHeader) (i : ℕ) → HoldsPlatforms platforms ps → h ≡ xs .row i → HoldsClashes (now (masks .entry)) (now (gpas .entry)) (now (sizes .entry)) (now (tables .entry)) n (before i xs) → Covers reach (before i xs) → InitializationStepped arch ps xs i (r .fault) (r .found) (r .region)) ⌝ }
 {
     let new = region_of(h);
@@ -234,7 +236,7 @@ pub struct InitializationStep {
 
 // 25, with the lowest bit of the mask whose last platform is not CCA.
 fn without_cca(platforms: Platforms, mask: u32) -> Fault
-    requires { ⌜ platforms .count ≤ 16 ⌝ }
+    requires { ⌜ platforms .count ≤ platformRows ⌝ }
     ensures { λ r. ⌜ r ≡ refuseBit (firstMask (λ bit. not (lastTypeIsCca platforms bit)) (individualMasks mask)) noFault ⌝ }
 {
     let bits = masks::extract_individual_masks(mask);
@@ -255,7 +257,7 @@ fn without_cca(platforms: Platforms, mask: u32) -> Fault
 
 // 24 and 25: a CcaPolicy by the architecture and the platforms.
 fn policy_fault(arch: Arch, platforms: Platforms, h: IgvmInitializationHeader) -> Fault
-    requires { ⌜ platforms .count ≤ 16 ⌝ }
+    requires { ⌜ platforms .count ≤ platformRows ⌝ }
     ensures { λ r. ⌜ ((ps : Rows IgvmPlatformHeader) → HoldsPlatforms platforms ps → r ≡ policyFault arch ps h) ⌝ }
 {
     match h {

@@ -4,6 +4,7 @@ use mathlib.Core.Path.{_≡_}
 use mathlib.Core.Bool.{Bool}
 use lib.Dec.{eqb}
 use lib.ListN.{getD}
+use Rattle.sheet.specs.Head.{platformRows}
 use Rattle.rows.specs.Below.{lastBelow}
 use Rattle.rows.specs.Rows.{Rows, before}
 use Rattle.igvm_defs.specs.declared.Arch.{Arch}
@@ -15,7 +16,7 @@ use Rattle.rules.specs.{Options.passes, Platforms.platformFault}
 -- the record holds the masks and the types of the rows, in their order
 pub record HoldsPlatforms (r : Platforms) (xs : Rows IgvmPlatformHeader) : Type 0 where
   pub count : r .count ≡ xs .count
-  pub room : xs .count ≤ 16
+  pub room : xs .count ≤ platformRows
   pub mask : (i : ℕ) → i < xs .count → getD (r .mask) i 0 ≡ xs .row i .«compatibility_mask»
   pub type : (i : ℕ) → i < xs .count → getD (r .types) i 0 ≡ xs .row i .«platform_type»
 

@@ -6,6 +6,7 @@ ghost use lib.Dec.{eqb};
 ghost use lib.ListN.{getD};
 ghost use Rattle.rows.specs.Below.{anyBelow};
 ghost use Rattle.rows.specs.Rows.{Rows, before};
+ghost use Rattle.sheet.specs.Head.{platformRows};
 ghost use Rattle.platform_header.specs.declared.IgvmPlatformHeader.{IgvmPlatformHeader};
 ghost use Rattle.rules.specs.Platforms.{validatePlatform, standsWith};
 ghost use Rattle.platform_check.specs.Record.{HoldsPlatforms, lastTypeIsCca, PlatformStepped};
@@ -13,6 +14,7 @@ use igvm_defs::Arch;
 use igvm_defs::Fault;
 use igvm_defs::PlatformType;
 use platform_header::IgvmPlatformHeader;
+use sheet::SheetHead;
 
 // 8, 9, 12, 10 and 11: the header alone.
 pub fn validate(h: IgvmPlatformHeader) -> Fault
@@ -56,8 +58,8 @@ fn type_after(found: u8, same: bool, kind: u8) -> u8
 
 // The masks and the types of the platform rows read so far.
 pub struct Platforms {
-    pub mask: [u32; 16],
-    pub types: [u8; 16],
+    pub mask: [u32; SheetHead::PLATFORM_ROWS],
+    pub types: [u8; SheetHead::PLATFORM_ROWS],
     pub count: usize,
 }
 
@@ -71,14 +73,14 @@ impl Platforms {
         ensures { λ r. ⌜ ((xs : Rows IgvmPlatformHeader) → HoldsPlatforms r (before 0 xs)) ⌝ }
     {
         Platforms {
-            mask: [0; 16],
-            types: [0; 16],
+            mask: [0; SheetHead::PLATFORM_ROWS],
+            types: [0; SheetHead::PLATFORM_ROWS],
             count: 0,
         }
     }
 
     fn push(self, mask: u32, kind: u8) -> Platforms
-        requires { ⌜ self .count < 16 ⌝ }
+        requires { ⌜ self .count < platformRows ⌝ }
         ensures { λ r. ⌜ ((xs : Rows IgvmPlatformHeader) (i : ℕ) → xs .row i .«compatibility_mask» ≡ mask → xs .row i .«platform_type» ≡ kind → HoldsPlatforms self (before i xs) → HoldsPlatforms r (before (i + 1) xs)) ⌝ }
     {
         let n = self.count;
@@ -91,7 +93,7 @@ impl Platforms {
 
     // Some row has this type.
     fn has_type(self, kind: u8) -> bool
-        requires { ⌜ self .count ≤ 16 ⌝ }
+        requires { ⌜ self .count ≤ platformRows ⌝ }
         ensures { λ r. ⌜ r ≡ anyBelow (self .count) (λ i. eqb kind (getD (self .types) i 0)) ⌝ }
     {
         let n = self.count;
@@ -106,7 +108,7 @@ impl Platforms {
 
     // The last row with this mask is CCA.
     pub fn last_is_cca(self, mask: u32) -> bool
-        requires { ⌜ self .count ≤ 16 ⌝ }
+        requires { ⌜ self .count ≤ platformRows ⌝ }
         ensures { λ r. ⌜ r ≡ lastTypeIsCca self mask ⌝ }
     {
         let n = self.count;
@@ -121,7 +123,7 @@ impl Platforms {
 
     // One row more: its fault, and the record with it.
     pub fn step(self, arch: Arch, h: IgvmPlatformHeader) -> PlatformStep
-        requires { ⌜ self .count < 16 ⌝ }
+        requires { ⌜ self .count < platformRows ⌝ }
         ensures { λ r. ⌜ ((xs : Rows IgvmPlatformHeader) (i : ℕ) → h ≡ xs .row i → HoldsPlatforms self (before i xs) → PlatformStepped arch xs i (r .fault) (r .platforms)) ⌝ }
     {
         let kind = h.platform_type;

@@ -10,7 +10,7 @@ ghost use Rattle.rows.specs.Below.{countBelow};
 ghost use Rattle.le.specs.Le.{byteAt};
 ghost use Rattle.igvm_defs.specs.Kinds.{kindOf, initializationList};
 ghost use Rattle.masks.specs.Masks.{matches};
-ghost use Rattle.sheet.specs.Head.{limits, headOf};
+ghost use Rattle.sheet.specs.Head.{initializationRows, limits, headOf};
 ghost use Rattle.sheet.specs.Table.{rowKind, bodyOf};
 ghost use Rattle.sheet.specs.Read.{codesOk, Readable};
 ghost use Rattle.initialization_header.specs.Initializations.{initializationOf, relocatableRegionOf};
@@ -155,8 +155,8 @@ fn one(test: bool) -> u32
 
 // How many of the first n regions are regions of the mask: no page table, and with every bit of the mask.
 fn count_in<'a>(masks: &'a [u32], tables: &'a [bool], n: usize, given: u32) -> usize
-    requires { ⌜ (n ≤ 64) × (n ≤ length (now masks)) × (n ≤ length (now tables)) ⌝ }
-    ensures { λ r. ⌜ (r ≡ countBelow n (λ e. matches given (getD (now (masks .entry)) e 0) && not (getD (now (tables .entry)) e false))) × (r ≤ 64) ⌝ }
+    requires { ⌜ (n ≤ initializationRows) × (n ≤ length (now masks)) × (n ≤ length (now tables)) ⌝ }
+    ensures { λ r. ⌜ (r ≡ countBelow n (λ e. matches given (getD (now (masks .entry)) e 0) && not (getD (now (tables .entry)) e false))) × (r ≤ initializationRows) ⌝ }
 {
     let mut count: u32 = 0;
     let mut i = 0;
@@ -175,10 +175,10 @@ pub fn count_within<'a>(
     given: u32,
     room: usize,
 ) -> usize
-    requires { ⌜ (n ≤ 64) × (n ≤ length (now masks)) × (n ≤ length (now tables)) ⌝ }
+    requires { ⌜ (n ≤ initializationRows) × (n ≤ length (now masks)) × (n ≤ length (now tables)) ⌝ }
     ensures { λ r. ⌜ countBelow n (λ e. matches given (getD (now (masks .entry)) e 0) && not (getD (now (tables .entry)) e false)) ≤ r ⌝ }
     ensures { λ r. ⌜ (room < r → r ≡ countBelow n (λ e. matches given (getD (now (masks .entry)) e 0) && not (getD (now (tables .entry)) e false))) ⌝ }
-    ensures { λ r. ⌜ r ≤ 64 ⌝ }
+    ensures { λ r. ⌜ r ≤ initializationRows ⌝ }
 {
     if n <= room {
         return n;
@@ -229,7 +229,7 @@ fn words_of(b: &[u8]) -> [u64; 8]
 
 // Puts the row's words as row n of the lent bytes where it is a region of the mask; how many rows there are then.
 fn put_region(given: u32, kind: u32, b: &[u8], n: usize, words: &mut [u8]) -> usize
-    requires { ⌜ (kindOf kind .list ≡ initializationList) × (kindOf kind .least ≤ length (now b)) × (codesOk kind (now b) ≡ true) × (n ≤ 64) ⌝ }
+    requires { ⌜ (kindOf kind .list ≡ initializationList) × (kindOf kind .least ≤ length (now b)) × (codesOk kind (now b) ≡ true) × (n ≤ initializationRows) ⌝ }
     requires { ⌜ (isRelocatable given (initializationOf kind (now b)) ≡ true → 64 * n + 64 ≤ length (now words)) ⌝ }
     ensures { λ r. ⌜ r ≡ n + cond (isRelocatable given (initializationOf kind (now (b .entry)))) 1 0 ⌝ }
     ensures { λ _. ⌜ now (words .exit) ≡ cond (isRelocatable given (initializationOf kind (now (b .entry)))) (rowPut n (regionWords (relocatableOf (initializationOf kind (now (b .entry))))) (now (words .entry))) (now (words .entry)) ⌝ }

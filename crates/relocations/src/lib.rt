@@ -5,7 +5,7 @@ ghost use mathlib.Core.Option.{none};
 ghost use Prim.Native.Nat.{_≤_, _<_};
 ghost use lib.ListN.{length};
 ghost use Rattle.igvm_defs.specs.Refusals.{noRefusal, isRefusal};
-ghost use Rattle.sheet.specs.Head.{limits};
+ghost use Rattle.sheet.specs.Head.{initializationRows, limits};
 ghost use Rattle.rules.specs.Relocations.{regionCount};
 ghost use Rattle.relocations.specs.Query.{queryRefusal};
 ghost use Rattle.answers.specs.Relocations.{sheetInitializations, foundOf, relocationsRefusal, relocationsOf, wordsAfter, checkRefusal, baseCheckOf, containsOf};
@@ -23,7 +23,7 @@ struct Counted {
 }
 
 fn query(s: &[u8], given: u32, room: usize) -> Counted
-    ensures { λ r. ⌜ (r .refusal ≡ queryRefusal limits (now (s .entry)) given) × (r .count ≤ 64) ⌝ }
+    ensures { λ r. ⌜ (r .refusal ≡ queryRefusal limits (now (s .entry)) given) × (r .count ≤ initializationRows) ⌝ }
     ensures { λ r. ⌜ (isRefusal (r .refusal) ≡ false → (regionCount (sheetInitializations (now (s .entry))) given ≤ r .count) × (room < r .count → r .count ≡ regionCount (sheetInitializations (now (s .entry))) given)) ⌝ }
 {
     let start = sheet::start_fault(s);
@@ -33,13 +33,14 @@ fn query(s: &[u8], given: u32, room: usize) -> Counted
             count: 0,
         };
     }
-    let mut masks: [u32; 64] = [0; 64];
-    let mut gpas: [u64; 64] = [0; 64];
-    let mut sizes: [u64; 64] = [0; 64];
-    let mut vps: [u16; 64] = [0; 64];
-    let mut vtls: [u8; 64] = [0; 64];
-    let mut tables: [bool; 64] = [false; 64];
-    let mut rows: [u16; 64] = [0; 64];
+    let mut masks: [u32; SheetHead::INITIALIZATION_ROWS] = [0; SheetHead::INITIALIZATION_ROWS];
+    let mut gpas: [u64; SheetHead::INITIALIZATION_ROWS] = [0; SheetHead::INITIALIZATION_ROWS];
+    let mut sizes: [u64; SheetHead::INITIALIZATION_ROWS] = [0; SheetHead::INITIALIZATION_ROWS];
+    let mut vps: [u16; SheetHead::INITIALIZATION_ROWS] = [0; SheetHead::INITIALIZATION_ROWS];
+    let mut vtls: [u8; SheetHead::INITIALIZATION_ROWS] = [0; SheetHead::INITIALIZATION_ROWS];
+    let mut tables: [bool; SheetHead::INITIALIZATION_ROWS] =
+        [false; SheetHead::INITIALIZATION_ROWS];
+    let mut rows: [u16; SheetHead::INITIALIZATION_ROWS] = [0; SheetHead::INITIALIZATION_ROWS];
     let mut contexts: [u32; 3] = [0; 3];
     let judged = judge::judge(
         s,

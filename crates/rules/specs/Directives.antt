@@ -4,7 +4,7 @@ use Prim.Native.Nat.{ℕ}
 use mathlib.Core.Bool.{Bool, cond, not, _&&_, _||_}
 use lib.Dec.{eqb, ltb}
 use Rattle.rows.specs.Rows.{Rows, any}
-use Rattle.igvm_defs.specs.{declared.Arch.Arch, declared.Fault.Fault, Refusals.{fault, noFault, refuse, orFault}, Revision.{isX64, isAArch64}}
+use Rattle.igvm_defs.specs.{declared.Arch.Arch, declared.Fault.Fault, Refusals.{fault, noFault, refuse, orFault}, Revision.{pageSize, isX64, isAArch64}}
 use Rattle.initialization_header.specs.declared.IgvmInitializationHeader.{IgvmInitializationHeader}
 use Rattle.directive_header.specs.{declared.IgvmDirectiveHeader.IgvmDirectiveHeader, Fields.{DirectiveFields, directiveFields, kindNumber, areaOf}}
 use Rattle.masks.specs.Masks.{shares}
@@ -21,7 +21,7 @@ hasPages kind = eqb kind 33 || eqb kind 44
 
 -- more data than a page holds, or than the area's bytes
 abbrev pub tooLong : DirectiveFields → Bool
-tooLong d = cond (eqb (d .kind) 32) (ltb 4096 (d .tail)) (eqb (d .kind) 33 && ltb (d .bytes) (d .tail))
+tooLong d = cond (eqb (d .kind) 32) (ltb pageSize (d .tail)) (eqb (d .kind) 33 && ltb (d .bytes) (d .tail))
 
 -- the header alone
 abbrev pub validateDirective : IgvmDirectiveHeader → Fault

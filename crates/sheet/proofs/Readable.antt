@@ -3,7 +3,7 @@
 use Rattle.rows.{proofs.Kit.{_≡_, refl, true, false, not, _||_, List, _↔_, ℕ, zero, suc, _+_, _<_, _≤_, arith, add-one, leb, ltb, eqb, length, length-take, length-drop, leb-true, le-leb, ltb-false, le-ltb, lt-ltb, eqb-true, eq-eqb, not-false}, specs.Below.{anyBelow, sumBelow}, proofs.Bools.{or-false-parts, and-parts}, proofs.BelowLaws.{none-any, sum-more}}
 use Rattle.le.specs.Le.{byteAt}
 use Rattle.igvm_defs.{specs.Refusals.{isFault, isRefusal}, specs.Kinds.{platformList, initializationList, directiveList, kindOf, lengthOk}, specs.Revision.pageSizeOf, proofs.RefusalLaws.{no-fault, refuse-fault, row-refusal, else-refusal, faults-any}, proofs.LengthLaws.length-least}
-use Rattle.sheet.specs.{declared.Cursor.Cursor, declared.SheetHead.SheetHead, Head.{Limits, limits, headOf, rowCount, bodiesAt, layoutOk, withinLimits, startFault, revisionOf, pageSizeFault}, Table.{rowKind, rowLength, offsetOf, bodyOf}, Read.{listAt, codesOk, rowFault, endFault, rowsRefusal, readRefusal, Readable, sheetRefusal}, Walk.{cursorAt, AtRow}}
+use Rattle.sheet.specs.{declared.Cursor.Cursor, declared.SheetHead.SheetHead, Head.{Limits, limits, platformRows, initializationRows, directiveRows, sheetBytes, headOf, rowCount, bodiesAt, layoutOk, withinLimits, startFault, revisionOf, pageSizeFault}, Table.{rowKind, rowLength, offsetOf, bodyOf}, Read.{listAt, codesOk, rowFault, endFault, rowsRefusal, readRefusal, Readable, sheetRefusal}, Walk.{cursorAt, AtRow}}
 
 -- ---- whether a fault or a refusal is met, as one test
 start-fault : (l : Limits) (s : List ℕ) → isFault (startFault l s)
@@ -82,10 +82,10 @@ start-says l s = (there, back)
 -- the bounds of the limits in force
 pub record Bounds (s : List ℕ) : Type 0 where
   pub head : 16 ≤ length s
-  pub platforms : headOf s .platforms ≤ 16
-  pub initializations : headOf s .initializations ≤ 64
-  pub directives : headOf s .directives ≤ 1024
-  pub bytes : length s ≤ 16777216
+  pub platforms : headOf s .platforms ≤ platformRows
+  pub initializations : headOf s .initializations ≤ initializationRows
+  pub directives : headOf s .directives ≤ directiveRows
+  pub bytes : length s ≤ sheetBytes
   pub table : bodiesAt (headOf s) ≤ length s
 
 pub started-bounds : (s : List ℕ) → Started limits s → Bounds s

@@ -11,7 +11,7 @@ use Rattle.igvm_defs.specs.declared.Arch.the-variants.{X64, AArch64}
 use Rattle.igvm_defs.specs.declared.IgvmRevision.{IgvmRevision}
 use Rattle.igvm_defs.specs.declared.IgvmRevision.the-variants.{V1, V2}
 use Rattle.igvm_defs.specs.Refusals.{fault, noFault, refuse}
-use Rattle.igvm_defs.specs.Revision.{pageSizeOf}
+use Rattle.igvm_defs.specs.Revision.{pageSize, pageSizeOf}
 use Rattle.sheet.specs.declared.SheetHead.{SheetHead}
 
 -- how many rows a list may have, and how many bytes a sheet
@@ -21,9 +21,24 @@ pub record Limits : Type 0 where
   pub directives : ℕ
   pub bytes : ℕ
 
--- the limits in force
+-- ---- the limits in force
+
+abbrev pub platformRows : ℕ
+platformRows = 16
+
+abbrev pub initializationRows : ℕ
+initializationRows = 64
+
+abbrev pub directiveRows : ℕ
+directiveRows = 1024
+
+abbrev pub sheetBytes : ℕ
+sheetBytes = 16777216
+
 unfoldable pub limits : Limits
-limits = record { platforms = 16; initializations = 64; directives = 1024; bytes = 16777216 }
+limits = record { platforms = platformRows; initializations = initializationRows; directives = directiveRows; bytes = sheetBytes }
+
+-- ---- the head
 
 unfoldable pub headOf : List ℕ → SheetHead
 headOf s =
@@ -78,4 +93,4 @@ revisionOf h = cond (eqb (h .revision) 1) V1 (V2 (archCode (h .arch)) (h .«page
 
 -- 7, with the page size
 unfoldable pub pageSizeFault : SheetHead → Fault
-pageSizeFault h = refuse (not (eqb (pageSizeOf (revisionOf h)) 4096)) (fault 7 (pageSizeOf (revisionOf h))) noFault
+pageSizeFault h = refuse (not (eqb (pageSizeOf (revisionOf h)) pageSize)) (fault 7 (pageSizeOf (revisionOf h))) noFault

@@ -22,13 +22,13 @@ pub struct SheetHead {
 
 impl SheetHead {
     // The one page size that is supported.
-    pub const PAGE_SIZE: u64 = 4096;
+    pub const PAGE_SIZE: u64 = igvm_defs::PAGE_SIZE_4K;
 
-    pub const PLATFORM_ROWS: u16 = 16;
+    pub const PLATFORM_ROWS: usize = 16;
 
-    pub const INITIALIZATION_ROWS: u16 = 64;
+    pub const INITIALIZATION_ROWS: usize = 64;
 
-    pub const DIRECTIVE_ROWS: u16 = 1024;
+    pub const DIRECTIVE_ROWS: usize = 1024;
 
     pub const SHEET_BYTES: usize = 16777216;
 
@@ -67,9 +67,9 @@ impl SheetHead {
     fn within_limits(self, n: usize) -> bool
         ensures { λ r. ⌜ r ≡ withinLimits limits self n ⌝ }
     {
-        (self.platforms <= SheetHead::PLATFORM_ROWS)
-            & (self.initializations <= SheetHead::INITIALIZATION_ROWS)
-            & (self.directives <= SheetHead::DIRECTIVE_ROWS)
+        ((self.platforms as usize) <= SheetHead::PLATFORM_ROWS)
+            & ((self.initializations as usize) <= SheetHead::INITIALIZATION_ROWS)
+            & ((self.directives as usize) <= SheetHead::DIRECTIVE_ROWS)
             & (n <= SheetHead::SHEET_BYTES)
     }
 
