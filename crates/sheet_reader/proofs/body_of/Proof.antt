@@ -3,8 +3,7 @@
 use Rattle.rows.{proofs.Kit.{refl, _<_, _^_, [], _∷_}, proofs.Walks.{URA, fullShare, named, erased, w64, Val, vint, ent, sep, Lft, Share, fat, Heap, Calls, Loops, WpFn, Atoms, givenOf, Given, ‵, raw, _⊛_, _$_, _∵_, !, qed, by, move, use1, use2, split, rewrite, look, init, forget, stop, from, load, and-then, no-more, land, returns, enter, alloc1, alloc0, params1, pass1, pass0, free1, free0, FmC, Is, u8, ShrSlice, shr-slice-lawful, Triple, calls-at, cited}}
 use denote.Triple.Walked.{needs}
 use Rattle.sheet_reader.specs.declared.SheetReader.{SheetReader}
-use Rattle.sheet_reader.proofs.{Walking.{Stands, open-does, body-does, ReaderDoes, PartsDo, vbytes, Bytes, Own, parts-entry, typed, spelled, own-spelled, to-reader, to-parts, reader-asks, parts-ask-too, reader-back, parts-back, parts-post, parts-exits, stands, free, frames, parts-meet}, open.Symbol.{name as #open, routine as opened}, open.Met.{met as open-met}, body.Symbol.{name as #body, routine as body}, body.Met.{met as body-met}, body_of.Key.{name as #body-of}, body_of.Statement.statement}
-use Rattle.sheet_reader.proofs.SheetReader.Laws as T′
+use Rattle.sheet_reader.proofs.{SheetReader.Laws.mir, Walking.{Stands, open-does, body-does, ReaderDoes, PartsDo, vbytes, Bytes, Own, parts-entry, typed, spelled, own-spelled, to-reader, to-parts, reader-asks, parts-ask-too, reader-back, parts-back, parts-post, parts-exits, stands, free, frames, parts-meet}, open.Symbol.{name as #open, routine as opened}, open.Met.{met as open-met}, body.Symbol.{name as #body, routine as body}, body.Met.{met as body-met}, body_of.Key.{name as #body-of}, body_of.Statement.statement}
 use Rattle.sheet_reader.proofs.body_of.Code as code
 
 module _ {M : Type 1} {𝓤 : URA M} {H : Heap 𝓤} {A : Atoms 𝓤} (W : Given 𝓤 H A) (C : Calls 𝓤 H) (Λ : Loops 𝓤 H) (fm : FmC 𝓤 H (W .laws) C) (known-open : Triple 𝓤 (C #open) (PartsDo 𝓤 H A (open-does 𝓤))) (known-body : Triple 𝓤 (C #body) (ReaderDoes 𝓤 H A (body-does 𝓤)))
@@ -18,7 +17,7 @@ module _ {M : Type 1} {𝓤 : URA M} {H : Heap 𝓤} {A : Atoms 𝓤} (W : Given
       move ! (10 ∷ []) $ use1 W (raw (PartsDo 𝓤 H A (open-does 𝓤) .pre (to-parts W (open-does 𝓤) κ q d)) ⊛ ‵ (Bytes κ (d .bytes))) (parts-ask-too W (open-does 𝓤) κ q d (free W)) $ split ! $
       calls-at ! fm (PartsDo 𝓤 H A (open-does 𝓤)) known-open (to-parts W (open-does 𝓤) κ q d) (and-then ! (load ! (from ! (stop !)) (look ! 8 refl)) (and-then ! (load ! (from ! (stop !)) (look ! 6 refl)) (and-then ! (load ! (from ! (stop !)) (look ! 4 refl)) (no-more !)))) (λ u. parts-back W (open-does 𝓤) κ q d ! tt u (λ r e is.
       -- [what the reader owns; the token; what the slice owns; room for _4 at 3; …; _3; …; _2; …; _1; …; room for _0 at 11; …]
-      use1 W (‵ (Own κ d)) (own-spelled W κ r u is d e) $ land ! (from ! (stop !)) (init ! 3 refl (typed W κ r u is)) $ rewrite ! 3 (λ (w : Val). ‵ (fat fullShare (T′.mir erased) l₄ 0 w)) (spelled W κ r u is d e) refl $
+      use1 W (‵ (Own κ d)) (own-spelled W κ r u is d e) $ land ! (from ! (stop !)) (init ! 3 refl (typed W κ r u is)) $ rewrite ! 3 (λ (w : Val). ‵ (fat fullShare (mir erased) l₄ 0 w)) (spelled W κ r u is d e) refl $
       -- `body`
       use2 W (raw (ReaderDoes 𝓤 H A (body-does 𝓤) .pre (to-reader W (body-does 𝓤) κ q d))) (reader-asks W (body-does 𝓤) κ q d (stands W d ok)) $
       calls-at ! fm (ReaderDoes 𝓤 H A (body-does 𝓤)) known-body (to-reader W (body-does 𝓤) κ q d) (and-then ! (load ! (from ! (stop !)) (look ! 2 refl)) (no-more !)) (λ u′. reader-back W (body-does 𝓤) κ q d ! tt u′ (λ b e′ is′.

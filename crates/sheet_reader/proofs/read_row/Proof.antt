@@ -3,9 +3,8 @@
 use Rattle.rows.{proofs.Kit.{_≡_, refl, ap, subst, _<_, _^_, [], _∷_, now}, proofs.Walks.{URA, fullShare, named, erased, w64, Val, vint, ent, Lft, Share, fat, Heap, Calls, Loops, WpFn, Atoms, givenOf, Given, ‵, raw, _⊛_, _$_, _∵_, !, qed, by, move, drop, use1, use2, split, rewrite, whole, sub, look-in, agg, look, init, forget, stop, fld, from, load, of-opd, and-then, no-more, assigns, land, returns, enter, alloc1, alloc0, params1, pass1, pass0, free1, free0, FmC, Is, u8, plain, ShrSlice, shr-slice-lawful, owned, only, Triple, calls-at, cited}}
 use denote.Triple.Walked.{needs}
 use Rattle.sheet_reader.specs.{Reading.{advanced, readRow}, declared.SheetReader.SheetReader, declared.SheetRow.SheetRow, declared.RowRead.RowRead}
-use Rattle.sheet_reader.proofs.{Walking.{B, Does, Stands, at-row, open-does, row-does, next-does, ReaderDoes, PartsDo, vbytes, Bytes, Own, D, L, parts-entry, twice, typed, spelled, is-spelled, own-spelled, to-reader, to-parts, reader-asks, parts-ask-too, reader-back, parts-back, parts-post, parts-exits, stands, free, frames, parts-meet}, open.Symbol.{name as #open, routine as opened}, open.Met.{met as open-met}, row.Symbol.{name as #row, routine as row}, row.Met.{met as row-met}, next.Symbol.{name as #next, routine as next}, next.Met.{met as next-met}, read_row.Key.{name as #read-row}, read_row.Statement.statement}
+use Rattle.sheet_reader.proofs.{SheetReader.Laws.{lowered, mir}, Walking.{B, Does, Stands, at-row, open-does, row-does, next-does, ReaderDoes, PartsDo, vbytes, Bytes, Own, D, L, parts-entry, twice, typed, spelled, is-spelled, own-spelled, to-reader, to-parts, reader-asks, parts-ask-too, reader-back, parts-back, parts-post, parts-exits, stands, free, frames, parts-meet}, open.Symbol.{name as #open, routine as opened}, open.Met.{met as open-met}, row.Symbol.{name as #row, routine as row}, row.Met.{met as row-met}, next.Symbol.{name as #next, routine as next}, next.Met.{met as next-met}, read_row.Key.{name as #read-row}, read_row.Statement.statement}
 use denote.Struct.Laws as LL
-use Rattle.sheet_reader.proofs.SheetReader.Laws as T′
 use Rattle.sheet_reader.proofs.SheetRow as S
 use Rattle.sheet_reader.proofs.SheetRow.Laws as S′
 use Rattle.sheet_reader.proofs.RowRead as R
@@ -25,7 +24,7 @@ module _ {M : Type 1} {𝓤 : URA M} {H : Heap 𝓤} {A : Atoms 𝓤} (W : Given
   abbrev out : SheetRow → RowRead
   out t = record { what = t; row = d′ .row; at = d′ .at }
 
-  out-is : (t : SheetRow) (u : Val) → Is S.the-row t (u ∷ []) → Is (B (κ, tt)) d′ (T′.lowered d′ ∷ []) → Is R.the-row (out t) (LL.vals R.the-type R′.the-laws (out t))
+  out-is : (t : SheetRow) (u : Val) → Is S.the-row t (u ∷ []) → Is (B (κ, tt)) d′ (lowered d′ ∷ []) → Is R.the-row (out t) (LL.vals R.the-type R′.the-laws (out t))
   out-is t u row-is is =
       let parts = LL.owed (D κ) (L κ) d′ _ is in
       LL.owes R.the-type R′.the-laws (out t) (subst (Is S.the-row t) (LL.tells S.the-type S′.the-laws t (u ∷ []) row-is) row-is, (parts .1 .0, (parts .1 .1 .0, tt)))
@@ -39,7 +38,7 @@ module _ {M : Type 1} {𝓤 : URA M} {H : Heap 𝓤} {A : Atoms 𝓤} (W : Given
       move ! (22 ∷ []) $ use1 W (raw (PartsDo 𝓤 H A (open-does 𝓤) .pre (to-parts W (open-does 𝓤) κ q d)) ⊛ ‵ (Bytes κ (d .bytes))) (parts-ask-too W (open-does 𝓤) κ q d (free W)) $ split ! $
       calls-at ! fm (PartsDo 𝓤 H A (open-does 𝓤)) known-open (to-parts W (open-does 𝓤) κ q d) (and-then ! (load ! (from ! (stop !)) (look ! 20 refl)) (and-then ! (load ! (from ! (stop !)) (look ! 18 refl)) (and-then ! (load ! (from ! (stop !)) (look ! 16 refl)) (no-more !)))) (λ u. parts-back W (open-does 𝓤) κ q d ! tt u (λ r e is.
       -- [what the reader owns; the token; what the slice owns; _10; …; _4 at 15; …; _1 at 21; …; _0 at 23; …]
-      use1 W (‵ (Own κ d)) (own-spelled W κ r u is d e) $ land ! (from ! (stop !)) (init ! 15 refl (typed W κ r u is)) $ rewrite ! 15 (λ (w : Val). ‵ (fat fullShare (T′.mir erased) l₄ 0 w)) (spelled W κ r u is d e) refl $
+      use1 W (‵ (Own κ d)) (own-spelled W κ r u is d e) $ land ! (from ! (stop !)) (init ! 15 refl (typed W κ r u is)) $ rewrite ! 15 (λ (w : Val). ‵ (fat fullShare (mir erased) l₄ 0 w)) (spelled W κ r u is d e) refl $
       assigns ! (of-opd ! (load ! (from ! (stop !)) (look ! 15 refl))) (from ! (stop !)) (init ! 9 refl (typed W κ d _ (is-spelled W κ r u is d e))) $
       -- `row`: what the reader owns is had twice
       use1 W (‵ (Own κ d) ⊛ ‵ (Own κ d)) (twice W κ d) $ split ! $ move ! (0 ∷ 2 ∷ []) $ use2 W (raw (ReaderDoes 𝓤 H A (row-does 𝓤) .pre (to-reader W (row-does 𝓤) κ q d))) (reader-asks W (row-does 𝓤) κ q d (stands W d ok)) $
@@ -51,7 +50,7 @@ module _ {M : Type 1} {𝓤 : URA M} {H : Heap 𝓤} {A : Atoms 𝓤} (W : Given
       move ! (1 ∷ 0 ∷ []) $ use2 W (raw (ReaderDoes 𝓤 H A (next-does 𝓤) .pre (to-reader W (next-does 𝓤) κ q d))) (reader-asks W (next-does 𝓤) κ q d (stands W d ok)) $
       calls-at ! fm (ReaderDoes 𝓤 H A (next-does 𝓤)) known-next (to-reader W (next-does 𝓤) κ q d) (and-then ! (load ! (from ! (stop !)) (look ! 6 refl)) (no-more !)) (λ u″. reader-back W (next-does 𝓤) κ q d ! tt u″ (λ r′ e″ is′. drop ! $
       -- [the token; what the slice owns; _10 at 2; …; _9 at 4; …; _6 at 10; …; _5 at 12; …; _0 at 22; …]
-      land ! (from ! (stop !)) (init ! 10 refl (typed W κ r′ u″ is′)) $ rewrite ! 10 (λ (w : Val). ‵ (fat fullShare (T′.mir erased) l₆ 0 w)) (spelled W κ r′ u″ is′ d′ e″) refl $
+      land ! (from ! (stop !)) (init ! 10 refl (typed W κ r′ u″ is′)) $ rewrite ! 10 (λ (w : Val). ‵ (fat fullShare (mir erased) l₆ 0 w)) (spelled W κ r′ u″ is′ d′ e″) refl $
       assigns ! (of-opd ! (load ! (from ! (fld ! refl (stop !))) (look-in ! 10 (sub ! 1 refl (whole !))))) (from ! (stop !)) (init ! 4 refl (tt, typed W κ d′ _ (is-spelled W κ r′ u″ is′ d′ e″) .1 .1 .0)) $
       assigns ! (of-opd ! (load ! (from ! (fld ! refl (stop !))) (look-in ! 10 (sub ! 2 refl (whole !))))) (from ! (stop !)) (init ! 2 refl (tt, typed W κ d′ _ (is-spelled W κ r′ u″ is′ d′ e″) .1 .1 .1 .0)) $
       assigns ! (agg ! (and-then ! (load ! (from ! (stop !)) (look ! 12 refl)) (and-then ! (load ! (from ! (stop !)) (look ! 4 refl)) (and-then ! (load ! (from ! (stop !)) (look ! 2 refl)) (no-more !))))) (from ! (stop !))
