@@ -1,6 +1,6 @@
 -- What is known of a row that the sheet reader reads where its body may end behind the sheet: it is there, or it has no kind.
 -- Assumes nothing.
-use Rattle.rows.proofs.Kit.{_≡_, refl, ap, Bool, true, false, List, ℕ, _+_, _<_, _≤_, arith, leb, length, take, drop, leb-true, le-leb}
+use Rattle.rows.proofs.Kit.{_≡_, refl, ap, Bool, true, false, List, ℕ, _+_, _<_, _≤_, arith, leb, length, leb-true, le-leb}
 use Rattle.sheet.{specs.declared.Cursor.Cursor, specs.Head.{headOf, rowCount}, specs.Table.{rowKind, rowLength, offsetOf}, specs.Walk.ReadTo, proofs.Readable.RowOk, proofs.ReadLaws.read-more}
 use Rattle.sheet_reader.specs.{declared.SheetRow.SheetRow, Reading.readAt}
 

@@ -2,18 +2,12 @@
 -- fact of the reader and the result. So a call, what it asks and what it gives back, an exit, and the way from a walk to the contract stand here once for all of them, and so does the walk of a function that
 -- passes a reader's parts on. The struct is Copy: what it owns is had twice, one copy is kept whole for the exit.
 -- Assumes nothing.
-use Rattle.rows.{proofs.Kit.{_≡_, refl, ap, subst, _∙_, ℕ, _<_, _^_, List, [], _∷_, T as Holds, length, now}, proofs.Walks.{URA, named, erased, w64, Val, WT, hasTy, vint, SProp, ent, sep, emp, snd∗, exE, id⊢, Lft, Share, Fml, ftrue, flft, Heap, Calls, Loops, WpFn, Atoms, sem, Lfts, fact, givenOf, tables, tablesOf, Given, ‵, raw, _⊛_, given, ⋆, some, later, _$_, _∵_, !, qed, by, move, drop, use1, use2, split, join, learn, pick, fsplit, fjoin, suffices, frame, await, done, whole, sub, look-in, look, init, forget, stop, fld, from, load, of-opd, and-then, no-more, assigns, land, returns, enter, alloc1, alloc0, params1, pass1, pass0, free1, free0, FmC, fmOf, WpFn-mono, RattleType, owns, Is, shows, uint-vals, uint-tells, uint-makes, u8, usize, RefT, NamedLft, plain, namedLft, sliceVal, ShrSlice, slice-vals, shr-slice-tells, shr-slice-copy, owned, peeks, heard, nothing, only, Declared, all-own, own-open, own-shut, Contract, Triple, calls-at, tripleOf, entered, cited, Routine, says, Stays, stay-none, stay-none-slice, walkOf, goes-none, goes-none-slice, ends-at, walked, walk-meets, yes, ensured, lasts}}
 use types.Kit.{Item, Goal, Soaks, Seq}
 use mir.Syntax.{Ty, Name, Fn, imm, tyInt, tyRef, w8, local, valueLocal, place, field, copy, rvOpd, assign, call, seq, return}
-use prog.Model.{Model}
-use prog.Routine.{Env}
-use prog.Wp.{Closed}
+use prog.{Model.Model, Routine.Env, Wp.Closed}
 use contract.Running.{GhostRules, Running}
-use denote.RattleType.{Denots, Valss}
-use denote.Signature.{Slot, shrSliceOf, typesAt}
-use denote.Slice.{sliceTy}
-use denote.Triple.Clauses.{Ended, Clauses, closing}
-use denote.Triple.End.{Kepts}
+use denote.{RattleType.{Denots, Valss}, Signature.{Slot, shrSliceOf, typesAt}, Slice.sliceTy, Triple.Clauses.{Ended, Clauses, closing}, Triple.End.Kepts}
+use Rattle.rows.{proofs.Kit.{_≡_, refl, ap, subst, _∙_, ℕ, _<_, _^_, List, [], _∷_, T as Holds, length, now}, proofs.Walks.{URA, named, erased, w64, Val, WT, hasTy, vint, SProp, ent, sep, emp, snd∗, exE, id⊢, Lft, Share, Fml, ftrue, flft, Heap, Calls, Loops, WpFn, Atoms, sem, Lfts, fact, givenOf, tables, tablesOf, Given, ‵, raw, _⊛_, given, ⋆, some, later, _$_, _∵_, !, qed, by, move, drop, use1, use2, split, join, learn, pick, fsplit, fjoin, suffices, frame, await, done, whole, sub, look-in, look, init, forget, stop, fld, from, load, of-opd, and-then, no-more, assigns, land, returns, enter, alloc1, alloc0, params1, pass1, pass0, free1, free0, FmC, fmOf, WpFn-mono, RattleType, owns, Is, shows, uint-vals, uint-tells, uint-makes, u8, usize, RefT, NamedLft, plain, namedLft, sliceVal, ShrSlice, slice-vals, shr-slice-tells, shr-slice-copy, owned, peeks, heard, nothing, only, Declared, all-own, own-open, own-shut, Contract, Triple, calls-at, tripleOf, entered, cited, Routine, says, Stays, stay-none, stay-none-slice, walkOf, goes-none, goes-none-slice, ends-at, walked, walk-meets, yes, ensured, lasts}}
 use Rattle.sheet.{specs.Table.bodyOf, specs.Walk.AtRow}
 use Rattle.sheet_reader.specs.{Reading.{rowOf, readerAt, advanced}, declared.SheetReader.SheetReader}
 use denote.Struct.Laws as LL
@@ -123,9 +117,6 @@ module _ {M : Type 1} {𝓤 : URA M} {H : Heap 𝓤} {A : Atoms 𝓤} (W : Given
   pub twice : ent 𝓤 (sem 𝓤 H A (Own κ d)) (sep 𝓤 (sem 𝓤 H A (Own κ d)) (sem 𝓤 H A (Own κ d)))
   twice = LL.copy (D κ) (T′.the-copy (namedLft 1 0 tt (κ, tt))) 𝓤 H A W .twice d (T′.lowered d ∷ [])
 
-  pub slice-twice : ent 𝓤 (sem 𝓤 H A (Bytes κ (d .bytes))) (sep 𝓤 (sem 𝓤 H A (Bytes κ (d .bytes))) (sem 𝓤 H A (Bytes κ (d .bytes))))
-  slice-twice = shr-slice-copy 𝓤 H A W (named 0) κ u8 .twice (d .bytes) (vbytes (d .bytes) ∷ [])
-
   -- a reader owns what its parts own, and of these only the slice has more than facts
   pub opened : ent 𝓤 (sem 𝓤 H A (Own κ d)) (sem 𝓤 H A (OwnParts κ d))
   opened = qed W (‵ (Own κ d) ∷ []) ∵ use1 W (given (T′.lowered d ∷ [] ≡ T′.lowered d ∷ []) (‵ (all-own (D κ .parts) (L κ) (Parts .args (κ, tt) d)))) (own-open 𝓤 H A W (D κ) (L κ) (Parts .args (κ, tt) d) (T′.lowered d)) $ learn ! (λ _. done !)
@@ -175,12 +166,6 @@ module _ {M : Type 1} {𝓤 : URA M} {H : Heap 𝓤} {A : Atoms 𝓤} (W : Given
       -- [what the parts own; what the reader owns; the token; what is asked]
       move ! (2 ∷ 0 ∷ 3 ∷ []) $ join ! $ use2 W (raw (Promise 𝓤 H A Parts c .pre (to Parts))) (id⊢ 𝓤 _) $ frame ! $ done !
 
-  -- a function of the parts calls another, and keeps the slice
-  pub parts-ask-too : ((X : SProp 𝓤) → ent 𝓤 X (sep 𝓤 X (c .asks d))) → ent 𝓤 (entry 𝓤 H A κ q d Parts) (sep 𝓤 (Promise 𝓤 H A Parts c .pre (to Parts)) (sem 𝓤 H A (Bytes κ (d .bytes))))
-  parts-ask-too p =
-      qed W (token 𝓤 H A κ q d ∷ ‵ (OwnParts κ d) ∷ []) ∵ move ! (1 ∷ []) $ fsplit ! $ use1 W (‵ (Bytes κ (d .bytes)) ⊛ ‵ (Bytes κ (d .bytes))) (slice-twice W κ d) $ split ! $
-      move ! (0 ∷ 2 ∷ []) $ fjoin ! $ move ! (2 ∷ 0 ∷ []) $ use2 W (raw (Promise 𝓤 H A Parts c .pre (to Parts))) (p (entry 𝓤 H A κ q d Parts)) $ frame ! $ done !
-
   -- the callee has returned a machine value: of the result its type's relation holds, and what the contract tells. The callee has no `&mut`, so what is said of last values is dropped
   pub back : {K : Type 0} {Γ : List (Item 𝓤)} {G : Goal 𝓤 H} → K → Soaks G → (s : Takes) (u : Val)
       → ((r : Ret .Denot) → c .tells (κ, tt) (s .reader (κ, tt) (s .args (κ, tt) d)) r → Is Ret r (u ∷ []) → Seq K W (‵ (Ret .own r (u ∷ [])) ∷ token 𝓤 H A κ q d ∷ Γ) G) → Seq K W (raw (Promise 𝓤 H A s c .post (to s) u) ∷ Γ) G
@@ -207,8 +192,12 @@ module _ {M : Type 1} {𝓤 : URA M} {H : Heap 𝓤} {A : Atoms 𝓤} (W : Given
 pub stands : {M : Type 1} {𝓤 : URA M} {H : Heap 𝓤} {A : Atoms 𝓤} (W : Given 𝓤 H A) (d : SheetReader) → Stands d → (X : SProp 𝓤) → ent 𝓤 X (sep 𝓤 X (fact 𝓤 (Stands d)))
 stands W d ok X = qed W (raw X ∷ []) ∵ says ! ok $ done !
 
-pub free : {M : Type 1} {𝓤 : URA M} {H : Heap 𝓤} {A : Atoms 𝓤} (W : Given 𝓤 H A) (X : SProp 𝓤) → ent 𝓤 X (sep 𝓤 X (emp 𝓤))
-free W X = qed W (raw X ∷ []) ∵ frame ! $ done !
+-- a function of the parts calls `open`, and keeps the slice: a `&[u8]` is Copy
+pub open-asks : {M : Type 1} {𝓤 : URA M} {H : Heap 𝓤} {A : Atoms 𝓤} (W : Given 𝓤 H A) (κ : Lft) (q : Share) (d : SheetReader)
+    → ent 𝓤 (entry 𝓤 H A κ q d Parts) (sep 𝓤 (Promise 𝓤 H A Parts (open-does 𝓤) .pre (to W (open-does 𝓤) κ q d Parts)) (sem 𝓤 H A (Bytes κ (d .bytes))))
+open-asks {𝓤 = 𝓤} {H = H} {A = A} W κ q d =
+    qed W (token 𝓤 H A κ q d ∷ ‵ (OwnParts κ d) ∷ []) ∵ move ! (1 ∷ []) $ fsplit ! $ use1 W (‵ (Bytes κ (d .bytes)) ⊛ ‵ (Bytes κ (d .bytes))) (shr-slice-copy 𝓤 H A W (named 0) κ u8 .twice (d .bytes) _) $ split ! $ move ! (0 ∷ 2 ∷ []) $ fjoin ! $ move ! (2 ∷ 0 ∷ []) $
+    use2 W (raw (Promise 𝓤 H A Parts (open-does 𝓤) .pre (to W (open-does 𝓤) κ q d Parts))) (qed W (token 𝓤 H A κ q d ∷ ‵ (OwnParts κ d) ∷ []) ∵ join ! $ frame ! $ done !) $ frame ! $ done !
 
 -- ---- a walk of a function's MIR is a proof of its contract
 
