@@ -2,16 +2,12 @@
 -- fact of the reader and the result. So a call, what it asks and what it gives back, an exit, and the way from a walk to the contract stand here once for all of them, and so does the walk of a function that
 -- passes a reader's parts on. The struct is Copy: what it owns is had twice, one copy is kept whole for the exit.
 -- Assumes nothing.
-use Rattle.rows.{proofs.Kit.{_≡_, refl, ap, subst, _∙_, ℕ, _<_, _^_, List, [], _∷_, T as Holds, length, now}, proofs.Walks.{URA, named, erased, w64, Val, WT, hasTy, vint, SProp, ent, sep, emp, snd∗, exE, id⊢, Lft, Share, Fml, ftrue, flft, Heap, Calls, Loops, WpFn, Atoms, sem, Lfts, fact, givenOf, tables, tablesOf, Given, ‵, raw, _⊛_, given, ⋆, some, later, _$_, _∵_, !, qed, by, move, drop, use1, use2, split, join, learn, pick, fsplit, fjoin, suffices, frame, await, done, whole, sub, look-in, look, init, forget, stop, fld, from, load, of-opd, and-then, no-more, assigns, land, returns, enter, alloc1, alloc0, params1, pass1, pass0, free1, free0, FmC, fmOf, WpFn-mono, RattleType, owns, Is, shows, uint-vals, uint-tells, uint-makes, u8, usize, RefT, NamedLft, plain, namedLft, sliceVal, ShrSlice, slice-vals, shr-slice-tells, shr-slice-copy, owned, peeks, heard, nothing, only, Declared, all-own, own-open, own-shut, Contract, Triple, calls-at, tripleOf, entered, cited, Routine, says, Stays, stay-none, stay-none-slice, walkOf, goes-none, goes-none-slice, ends-at, walked, walk-meets, yes, ensured, lasts}}
 use types.Kit.{Item, Goal, Soaks, Seq}
 use mir.Syntax.{Ty, Name, Fn, imm, tyInt, tyRef, w8, local, valueLocal, place, field, copy, rvOpd, assign, call, seq, return}
-use prog.Model.{Model}
-use prog.Routine.{Env}
-use prog.Wp.{Closed}
+use prog.{Model.Model, Routine.Env, Wp.Closed}
 use contract.Running.{GhostRules, Running}
-use denote.Signature.{Slot, shrSliceOf}
-use denote.Slice.{sliceTy}
-use denote.Triple.Clauses.{Ended, Clauses, closing}
+use denote.{RattleType.{Denots, Valss}, Signature.{Slot, shrSliceOf, typesAt}, Slice.sliceTy, Triple.Clauses.{Ended, Clauses, closing}, Triple.End.Kepts}
+use Rattle.rows.{proofs.Kit.{_≡_, refl, ap, subst, _∙_, ℕ, _<_, _^_, List, [], _∷_, T as Holds, length, now}, proofs.Walks.{URA, named, erased, w64, Val, WT, hasTy, vint, SProp, ent, sep, emp, snd∗, exE, id⊢, Lft, Share, Fml, ftrue, flft, Heap, Calls, Loops, WpFn, Atoms, sem, Lfts, fact, givenOf, tables, tablesOf, Given, ‵, raw, _⊛_, given, ⋆, some, later, _$_, _∵_, !, qed, by, move, drop, use1, use2, split, join, learn, pick, fsplit, fjoin, suffices, frame, await, done, whole, sub, look-in, look, init, forget, stop, fld, from, load, of-opd, and-then, no-more, assigns, land, returns, enter, alloc1, alloc0, params1, pass1, pass0, free1, free0, FmC, fmOf, WpFn-mono, RattleType, owns, Is, shows, uint-vals, uint-tells, uint-makes, u8, usize, RefT, NamedLft, plain, namedLft, sliceVal, ShrSlice, slice-vals, shr-slice-tells, shr-slice-copy, owned, peeks, heard, nothing, only, Declared, all-own, own-open, own-shut, Contract, Triple, calls-at, tripleOf, entered, cited, Routine, says, Stays, stay-none, stay-none-slice, walkOf, goes-none, goes-none-slice, ends-at, walked, walk-meets, yes, ensured, lasts}}
 use Rattle.sheet.{specs.Table.bodyOf, specs.Walk.AtRow}
 use Rattle.sheet_reader.specs.{Reading.{rowOf, readerAt, advanced}, declared.SheetReader.SheetReader}
 use denote.Struct.Laws as LL
@@ -28,11 +24,30 @@ bytes = shrSliceOf (0 ∷ []) tt (plain (λ _. u8))
 abbrev pub B : Lfts 1 → RattleType
 B κs = T.the-row (namedLft 1 0 tt κs)
 
-abbrev ofReader : Slot 1 → Ended
-ofReader R = record { signature = record { lifetimes = 1; outlives = []; params = plain B ∷ []; result = R }; kept = (yes, tt) }
+-- what a function takes: a reader, or its parts (a slice, a row, and where its body starts)
+pub record Takes : Type 2 where
+  pub params : List (Slot 1)
+  pub kept : Kepts params
+  pub stayed : Stays params kept
+  pub reader : (κs : Lfts 1) → Denots (typesAt params κs) → SheetReader
+  pub args : (κs : Lfts 1) → SheetReader → Denots (typesAt params κs)
+  pub vals : (κs : Lfts 1) → SheetReader → Valss (typesAt params κs)
 
-abbrev ofParts : Slot 1 → Ended
-ofParts R = record { signature = record { lifetimes = 1; outlives = []; params = bytes ∷ plain (λ _. usize) ∷ plain (λ _. usize) ∷ []; result = R }; kept = (yes, (yes, (yes, tt))) }
+abbrev pub Reader : Takes
+Reader = record { params = plain B ∷ []; kept = (yes, tt); stayed = (stay-none B yes, tt); reader = λ κs a. a .0; args = λ κs d. (d, tt); vals = λ κs d. (T′.lowered d ∷ [], tt) }
+
+abbrev pub vbytes : RefT (List ℕ) → Val
+vbytes s = sliceVal (s .ptr) (length (s .now))
+
+abbrev pub Parts : Takes
+Parts = record {
+  params = bytes ∷ plain (λ _. usize) ∷ plain (λ _. usize) ∷ [];
+  kept = (yes, (yes, (yes, tt)));
+  stayed = (stay-none-slice (0 ∷ []) tt (plain (λ _. u8)) yes, (stay-none (λ _. usize) yes, (stay-none (λ _. usize) yes, tt)));
+  reader = λ κs a. readerAt (a .0) (a .1 .0) (a .1 .1 .0);
+  args = λ κs d. (d .bytes, (d .row, (d .at, tt)));
+  vals = λ κs d. (vbytes (d .bytes) ∷ [], (vint w64 (d .row) ∷ [], (vint w64 (d .at) ∷ [], tt)));
+}
 
 -- what a function does: what it asks of the reader, what it gives, and what its contract tells of that
 pub record Does {M : Type 1} (𝓤 : URA M) : Type 2 where
@@ -61,36 +76,17 @@ module _ {M : Type 1} (𝓤 : URA M) where
   abbrev pub next-does : Does 𝓤
   next-does = at-row 𝓤 (plain B) (λ κs d r. r ≡ advanced d)
 
-module _ {M : Type 1} (𝓤 : URA M) (H : Heap 𝓤) (A : Atoms 𝓤) (c : Does 𝓤) where
-  abbrev reader-clauses : Clauses 𝓤 (ofReader (c .gives))
-  reader-clauses κs a = record { ghost = Unit {0}; requires = λ _. c .asks (a .0); ensures = λ _ r _. fact 𝓤 (c .tells κs (a .0) r) }
+abbrev ended : Takes → Slot 1 → Ended
+ended s R = record { signature = record { lifetimes = 1; outlives = []; params = s .params; result = R }; kept = s .kept }
 
-  abbrev parts-clauses : Clauses 𝓤 (ofParts (c .gives))
-  parts-clauses κs a = let d = readerAt (a .0) (a .1 .0) (a .1 .1 .0) in record { ghost = Unit {0}; requires = λ _. c .asks d; ensures = λ _ r _. fact 𝓤 (c .tells κs d r) }
+module _ {M : Type 1} (𝓤 : URA M) (H : Heap 𝓤) (A : Atoms 𝓤) (s : Takes) (c : Does 𝓤) where
+  abbrev clauses : Clauses 𝓤 (ended s (c .gives))
+  clauses κs a = record { ghost = Unit {0}; requires = λ _. c .asks (s .reader κs a); ensures = λ _ r _. fact 𝓤 (c .tells κs (s .reader κs a) r) }
 
-  abbrev pub ReaderDoes : Contract 𝓤
-  ReaderDoes = tripleOf 𝓤 H A (ofReader (c .gives) .signature) (closing 𝓤 H A (ofReader (c .gives)) reader-clauses)
-
-  abbrev pub PartsDo : Contract 𝓤
-  PartsDo = tripleOf 𝓤 H A (ofParts (c .gives) .signature) (closing 𝓤 H A (ofParts (c .gives)) parts-clauses)
-
-abbrev stayed-reader : (R : Slot 1) → Stays (ofReader R .signature .params) (ofReader R .kept)
-stayed-reader R = (stay-none B yes, tt)
-
-abbrev stayed-parts : (R : Slot 1) → Stays (ofParts R .signature .params) (ofParts R .kept)
-stayed-parts R = (stay-none-slice (0 ∷ []) tt (plain (λ _. u8)) yes, (stay-none (λ _. usize) yes, (stay-none (λ _. usize) yes, tt)))
+  abbrev pub Promise : Contract 𝓤
+  Promise = tripleOf 𝓤 H A (ended s (c .gives) .signature) (closing 𝓤 H A (ended s (c .gives)) clauses)
 
 -- ---- what is owned
-
-abbrev pub vbytes : RefT (List ℕ) → Val
-vbytes s = sliceVal (s .ptr) (length (s .now))
-
--- what a reader is made of, as values and as machine values
-abbrev parts : SheetReader → RefT (List ℕ) × (ℕ × (ℕ × Unit {0}))
-parts d = (d .bytes, (d .row, (d .at, tt)))
-
-abbrev passed : SheetReader → List Val × (List Val × (List Val × Unit {0}))
-passed d = (vbytes (d .bytes) ∷ [], (vint w64 (d .row) ∷ [], (vint w64 (d .at) ∷ [], tt)))
 
 module _ (κ : Lft) where
   abbrev pub Bytes : RefT (List ℕ) → Fml
@@ -100,7 +96,7 @@ module _ (κ : Lft) where
   Own d = B (κ, tt) .own d (T′.lowered d ∷ [])
 
   abbrev pub OwnParts : SheetReader → Fml
-  OwnParts d = owns (ShrSlice (named 0) κ u8 ∷ usize ∷ usize ∷ []) (parts d) (passed d)
+  OwnParts d = owns (typesAt (Parts .params) (κ, tt)) (Parts .args (κ, tt) d) (Parts .vals (κ, tt) d)
 
   -- the struct's type and laws
   abbrev pub D : Declared
@@ -114,22 +110,16 @@ module _ {M : Type 1} (𝓤 : URA M) (H : Heap 𝓤) (A : Atoms 𝓤) (κ : Lft)
   token = ‵ (flft κ q) ⊛ ‵ ftrue
 
   -- what a function has at its entry
-  abbrev pub reader-entry : SProp 𝓤
-  reader-entry = ⋆ 𝓤 H A (token ∷ ‵ (owns (B (κ, tt) ∷ []) (d, tt) (T′.lowered d ∷ [], tt)) ∷ [])
-
-  abbrev pub parts-entry : SProp 𝓤
-  parts-entry = ⋆ 𝓤 H A (token ∷ ‵ (OwnParts κ d) ∷ [])
+  abbrev pub entry : Takes → SProp 𝓤
+  entry s = ⋆ 𝓤 H A (token ∷ ‵ (owns (typesAt (s .params) (κ, tt)) (s .args (κ, tt) d) (s .vals (κ, tt) d)) ∷ [])
 
 module _ {M : Type 1} {𝓤 : URA M} {H : Heap 𝓤} {A : Atoms 𝓤} (W : Given 𝓤 H A) (κ : Lft) (d : SheetReader) where
   pub twice : ent 𝓤 (sem 𝓤 H A (Own κ d)) (sep 𝓤 (sem 𝓤 H A (Own κ d)) (sem 𝓤 H A (Own κ d)))
   twice = LL.copy (D κ) (T′.the-copy (namedLft 1 0 tt (κ, tt))) 𝓤 H A W .twice d (T′.lowered d ∷ [])
 
-  pub slice-twice : ent 𝓤 (sem 𝓤 H A (Bytes κ (d .bytes))) (sep 𝓤 (sem 𝓤 H A (Bytes κ (d .bytes))) (sem 𝓤 H A (Bytes κ (d .bytes))))
-  slice-twice = shr-slice-copy 𝓤 H A W (named 0) κ u8 .twice (d .bytes) (vbytes (d .bytes) ∷ [])
-
   -- a reader owns what its parts own, and of these only the slice has more than facts
   pub opened : ent 𝓤 (sem 𝓤 H A (Own κ d)) (sem 𝓤 H A (OwnParts κ d))
-  opened = qed W (‵ (Own κ d) ∷ []) ∵ use1 W (given (T′.lowered d ∷ [] ≡ T′.lowered d ∷ []) (‵ (all-own (D κ .parts) (L κ) (parts d)))) (own-open 𝓤 H A W (D κ) (L κ) (parts d) (T′.lowered d)) $ learn ! (λ _. done !)
+  opened = qed W (‵ (Own κ d) ∷ []) ∵ use1 W (given (T′.lowered d ∷ [] ≡ T′.lowered d ∷ []) (‵ (all-own (D κ .parts) (L κ) (Parts .args (κ, tt) d)))) (own-open 𝓤 H A W (D κ) (L κ) (Parts .args (κ, tt) d) (T′.lowered d)) $ learn ! (λ _. done !)
 
   module _ (row-fits : d .row < 2 ^ 64) (at-fits : d .at < 2 ^ 64) where
     pub together : ent 𝓤 (sem 𝓤 H A (Bytes κ (d .bytes))) (sem 𝓤 H A (OwnParts κ d))
@@ -138,7 +128,7 @@ module _ {M : Type 1} {𝓤 : URA M} {H : Heap 𝓤} {A : Atoms 𝓤} (W : Given
         owned ! usize (Is usize) (uint-makes 𝓤 H A W w64) (d .row) _ (refl, row-fits) $ fjoin ! $ move ! (1 ∷ 0 ∷ []) $ fjoin ! $ done !
 
     pub shut : ent 𝓤 (sem 𝓤 H A (Bytes κ (d .bytes))) (sem 𝓤 H A (Own κ d))
-    shut = qed W (‵ (Bytes κ (d .bytes)) ∷ []) ∵ use1 W (‵ (OwnParts κ d)) together $ by ! (own-shut 𝓤 H A W (D κ) (L κ) (parts d))
+    shut = qed W (‵ (Bytes κ (d .bytes)) ∷ []) ∵ use1 W (‵ (OwnParts κ d)) together $ by ! (own-shut 𝓤 H A W (D κ) (L κ) (Parts .args (κ, tt) d))
 
 -- a reader that a callee has returned: it has the struct's MIR type in a local, where the lifetime is erased, and its machine value is written out
 module _ {M : Type 1} {𝓤 : URA M} {H : Heap 𝓤} {A : Atoms 𝓤} (W : Given 𝓤 H A) (κ : Lft) (r : SheetReader) (u : Val) (is : Is (B (κ, tt)) r (u ∷ [])) where
@@ -158,73 +148,56 @@ module _ {M : Type 1} {𝓤 : URA M} {H : Heap 𝓤} {A : Atoms 𝓤} (W : Given
 -- ---- calls and exits
 
 module _ {M : Type 1} {𝓤 : URA M} {H : Heap 𝓤} {A : Atoms 𝓤} (W : Given 𝓤 H A) (c : Does 𝓤) (κ : Lft) (q : Share) (d : SheetReader) where
-  abbrev pub to-reader : ReaderDoes 𝓤 H A c .Ghost
-  to-reader = (((κ, tt), (q, tt), tt, (d, tt), (T′.lowered d ∷ [], tt)), tt)
-
-  abbrev pub to-parts : PartsDo 𝓤 H A c .Ghost
-  to-parts = (((κ, tt), (q, tt), tt, parts d, passed d), tt)
+  abbrev pub to : (s : Takes) → Promise 𝓤 H A s c .Ghost
+  to s = (((κ, tt), (q, tt), tt, s .args (κ, tt) d, s .vals (κ, tt) d), tt)
 
   abbrev Ret : RattleType
   Ret = c .gives .row (κ, tt)
 
   -- what a function of a reader asks, where what its contract asks can be had
-  pub reader-asks : ((X : SProp 𝓤) → ent 𝓤 X (sep 𝓤 X (c .asks d))) → ent 𝓤 (⋆ 𝓤 H A (‵ (Own κ d) ∷ token 𝓤 H A κ q d ∷ [])) (ReaderDoes 𝓤 H A c .pre to-reader)
-  reader-asks p = qed W (‵ (Own κ d) ∷ token 𝓤 H A κ q d ∷ []) ∵ nothing ! $ move ! (1 ∷ 0 ∷ []) $ fjoin ! $ move ! (1 ∷ 0 ∷ []) $ by ! (p (reader-entry 𝓤 H A κ q d))
+  pub reader-asks : ((X : SProp 𝓤) → ent 𝓤 X (sep 𝓤 X (c .asks d))) → ent 𝓤 (⋆ 𝓤 H A (‵ (Own κ d) ∷ token 𝓤 H A κ q d ∷ [])) (Promise 𝓤 H A Reader c .pre (to Reader))
+  reader-asks p = qed W (‵ (Own κ d) ∷ token 𝓤 H A κ q d ∷ []) ∵ nothing ! $ move ! (1 ∷ 0 ∷ []) $ fjoin ! $ move ! (1 ∷ 0 ∷ []) $ by ! (p (entry 𝓤 H A κ q d Reader))
 
   -- a function of a reader calls one of its parts, and keeps the reader
-  pub parts-ask : ent 𝓤 (sep 𝓤 (reader-entry 𝓤 H A κ q d) (c .asks d)) (sep 𝓤 (PartsDo 𝓤 H A c .pre to-parts) (sem 𝓤 H A (Own κ d)))
+  pub parts-ask : ent 𝓤 (sep 𝓤 (entry 𝓤 H A κ q d Reader) (c .asks d)) (sep 𝓤 (Promise 𝓤 H A Parts c .pre (to Parts)) (sem 𝓤 H A (Own κ d)))
   parts-ask =
       qed W ((token 𝓤 H A κ q d ⊛ ‵ (owns (B (κ, tt) ∷ []) (d, tt) (T′.lowered d ∷ [], tt))) ∷ raw (c .asks d) ∷ []) ∵ split ! $ move ! (1 ∷ []) $ fsplit ! $ move ! (1 ∷ []) $ drop ! $
       use1 W (‵ (Own κ d) ⊛ ‵ (Own κ d)) (twice W κ d) $ split ! $ use1 W (‵ (OwnParts κ d)) (opened W κ d) $
       -- [what the parts own; what the reader owns; the token; what is asked]
-      move ! (2 ∷ 0 ∷ 3 ∷ []) $ join ! $ use2 W (raw (PartsDo 𝓤 H A c .pre to-parts)) (id⊢ 𝓤 _) $ frame ! $ done !
-
-  -- a function of the parts calls another, and keeps the slice
-  pub parts-ask-too : ((X : SProp 𝓤) → ent 𝓤 X (sep 𝓤 X (c .asks d))) → ent 𝓤 (parts-entry 𝓤 H A κ q d) (sep 𝓤 (PartsDo 𝓤 H A c .pre to-parts) (sem 𝓤 H A (Bytes κ (d .bytes))))
-  parts-ask-too p =
-      qed W (token 𝓤 H A κ q d ∷ ‵ (OwnParts κ d) ∷ []) ∵ move ! (1 ∷ []) $ fsplit ! $ use1 W (‵ (Bytes κ (d .bytes)) ⊛ ‵ (Bytes κ (d .bytes))) (slice-twice W κ d) $ split ! $
-      move ! (0 ∷ 2 ∷ []) $ fjoin ! $ move ! (2 ∷ 0 ∷ []) $ use2 W (raw (PartsDo 𝓤 H A c .pre to-parts)) (p (parts-entry 𝓤 H A κ q d)) $ frame ! $ done !
+      move ! (2 ∷ 0 ∷ 3 ∷ []) $ join ! $ use2 W (raw (Promise 𝓤 H A Parts c .pre (to Parts))) (id⊢ 𝓤 _) $ frame ! $ done !
 
   -- the callee has returned a machine value: of the result its type's relation holds, and what the contract tells. The callee has no `&mut`, so what is said of last values is dropped
-  module _ {K : Type 0} {Γ : List (Item 𝓤)} {G : Goal 𝓤 H} (t : K) (z : Soaks G) (u : Val)
-      (k : (r : Ret .Denot) → c .tells (κ, tt) d r → Is Ret r (u ∷ []) → Seq K W (‵ (Ret .own r (u ∷ [])) ∷ token 𝓤 H A κ q d ∷ Γ) G) where
-    abbrev Back : (Ret .Denot → SProp 𝓤) → Item 𝓤
-    Back E = later (some (λ (r : Ret .Denot). (token 𝓤 H A κ q d ⊛ ‵ (Ret .own r (u ∷ []))) ⊛ raw (E r)))
+  pub back : {K : Type 0} {Γ : List (Item 𝓤)} {G : Goal 𝓤 H} → K → Soaks G → (s : Takes) (u : Val)
+      → ((r : Ret .Denot) → c .tells (κ, tt) (s .reader (κ, tt) (s .args (κ, tt) d)) r → Is Ret r (u ∷ []) → Seq K W (‵ (Ret .own r (u ∷ [])) ∷ token 𝓤 H A κ q d ∷ Γ) G) → Seq K W (raw (Promise 𝓤 H A s c .post (to s) u) ∷ Γ) G
+  back t z s u k =
+      let Told : Ret .Denot → Type 0 = c .tells (κ, tt) (s .reader (κ, tt) (s .args (κ, tt) d)) in
+      use1 W (later (some (λ (r : Ret .Denot). (token 𝓤 H A κ q d ⊛ ‵ (Ret .own r (u ∷ []))) ⊛ raw (ensured 𝓤 H A (ended s (c .gives)) (clauses 𝓤 H A s c) (κ, tt) (s .args (κ, tt) d) tt r)))) (id⊢ 𝓤 _) $ await t z $ pick t (λ r. split t $ move t (1 ∷ []) $
+      use1 W (raw (fact 𝓤 (Told r))) (exE 𝓤 _ (λ ws. snd∗ 𝓤 (sem 𝓤 H A (lasts (ended s (c .gives)) (κ, tt) (s .args (κ, tt) d) ws)) (fact 𝓤 (Told r)))) $ heard t (Told r) (λ e. split t $ move t (1 ∷ []) $ peeks t Ret (Is Ret) (shows 𝓤 H A Ret) r (u ∷ []) (k r e)))
 
-    back : (E : Ret .Denot → SProp 𝓤) → ((r : Ret .Denot) → ent 𝓤 (E r) (fact 𝓤 (c .tells (κ, tt) d r))) → Seq K W (Back E ∷ Γ) G
-    back E said = await t z $ pick t (λ r. split t $ move t (1 ∷ []) $ use1 W (raw (fact 𝓤 (c .tells (κ, tt) d r))) (said r) $ heard t (c .tells (κ, tt) d r) (λ e. split t $ move t (1 ∷ []) $ peeks t Ret (Is Ret) (shows 𝓤 H A Ret) r (u ∷ []) (k r e)))
-
-    pub reader-back : Seq K W (raw (ReaderDoes 𝓤 H A c .post to-reader u) ∷ Γ) G
-    reader-back = use1 W (Back (ensured 𝓤 H A (ofReader (c .gives)) (reader-clauses 𝓤 H A c) (κ, tt) (d, tt) tt)) (id⊢ 𝓤 _) $
-        back _ (λ r. exE 𝓤 _ (λ ws. snd∗ 𝓤 (sem 𝓤 H A (lasts (ofReader (c .gives)) (κ, tt) (d, tt) ws)) (fact 𝓤 (c .tells (κ, tt) d r))))
-
-    pub parts-back : Seq K W (raw (PartsDo 𝓤 H A c .post to-parts u) ∷ Γ) G
-    parts-back = use1 W (Back (ensured 𝓤 H A (ofParts (c .gives)) (parts-clauses 𝓤 H A c) (κ, tt) (parts d) tt)) (id⊢ 𝓤 _) $
-        back _ (λ r. exE 𝓤 _ (λ ws. snd∗ 𝓤 (sem 𝓤 H A (lasts (ofParts (c .gives)) (κ, tt) (parts d) ws)) (fact 𝓤 (c .tells (κ, tt) d r))))
-
-  abbrev pub reader-post : Val → SProp 𝓤
-  reader-post = walkOf 𝓤 H A (ofReader (c .gives)) (stayed-reader (c .gives)) (reader-clauses 𝓤 H A c) .post to-reader
-
-  abbrev pub parts-post : Val → SProp 𝓤
-  parts-post = walkOf 𝓤 H A (ofParts (c .gives)) (stayed-parts (c .gives)) (parts-clauses 𝓤 H A c) .post to-parts
+  abbrev pub post : Takes → Val → SProp 𝓤
+  post s = walkOf 𝓤 H A (ended s (c .gives)) (s .stayed) (clauses 𝓤 H A s c) .post (to s)
 
   -- at exit there are the result, the token, and what was passed
   module _ (r : Ret .Denot) (u : Val) (e : c .tells (κ, tt) d r) where
-    pub reader-exits : ent 𝓤 (⋆ 𝓤 H A (‵ (Ret .own r (u ∷ [])) ∷ token 𝓤 H A κ q d ∷ ‵ (Own κ d) ∷ [])) (reader-post u)
+    pub reader-exits : ent 𝓤 (⋆ 𝓤 H A (‵ (Ret .own r (u ∷ [])) ∷ token 𝓤 H A κ q d ∷ ‵ (Own κ d) ∷ [])) (post Reader u)
     reader-exits =
-        qed W (‵ (Ret .own r (u ∷ [])) ∷ token 𝓤 H A κ q d ∷ ‵ (Own κ d) ∷ []) ∵ suffices ! _ (ends-at 𝓤 H A (ofReader (c .gives)) (stayed-reader (c .gives)) (reader-clauses 𝓤 H A c) W to-reader u r (tt, tt) (tt, tt)) $
+        qed W (‵ (Ret .own r (u ∷ [])) ∷ token 𝓤 H A κ q d ∷ ‵ (Own κ d) ∷ []) ∵ suffices ! _ (ends-at 𝓤 H A (ended Reader (c .gives)) (Reader .stayed) (clauses 𝓤 H A Reader c) W (to Reader) u r (tt, tt) (tt, tt)) $
         says ! e $ move ! (1 ∷ []) $ frame ! $ nothing ! $ move ! (2 ∷ 0 ∷ []) $ fjoin ! $ frame ! $ done !
 
-    pub parts-exits : d .row < 2 ^ 64 → d .at < 2 ^ 64 → ent 𝓤 (⋆ 𝓤 H A (‵ (Ret .own r (u ∷ [])) ∷ token 𝓤 H A κ q d ∷ ‵ (Bytes κ (d .bytes)) ∷ [])) (parts-post u)
+    pub parts-exits : d .row < 2 ^ 64 → d .at < 2 ^ 64 → ent 𝓤 (⋆ 𝓤 H A (‵ (Ret .own r (u ∷ [])) ∷ token 𝓤 H A κ q d ∷ ‵ (Bytes κ (d .bytes)) ∷ [])) (post Parts u)
     parts-exits row-fits at-fits =
-        qed W (‵ (Ret .own r (u ∷ [])) ∷ token 𝓤 H A κ q d ∷ ‵ (Bytes κ (d .bytes)) ∷ []) ∵ suffices ! _ (ends-at 𝓤 H A (ofParts (c .gives)) (stayed-parts (c .gives)) (parts-clauses 𝓤 H A c) W to-parts u r (tt, (tt, (tt, tt))) (tt, (tt, (tt, tt)))) $
+        qed W (‵ (Ret .own r (u ∷ [])) ∷ token 𝓤 H A κ q d ∷ ‵ (Bytes κ (d .bytes)) ∷ []) ∵ suffices ! _ (ends-at 𝓤 H A (ended Parts (c .gives)) (Parts .stayed) (clauses 𝓤 H A Parts c) W (to Parts) u r (tt, (tt, (tt, tt))) (tt, (tt, (tt, tt)))) $
         says ! e $ move ! (1 ∷ []) $ frame ! $ move ! (1 ∷ []) $ use1 W (‵ (OwnParts κ d)) (together W κ d row-fits at-fits) $ frame ! $ done !
 
 pub stands : {M : Type 1} {𝓤 : URA M} {H : Heap 𝓤} {A : Atoms 𝓤} (W : Given 𝓤 H A) (d : SheetReader) → Stands d → (X : SProp 𝓤) → ent 𝓤 X (sep 𝓤 X (fact 𝓤 (Stands d)))
 stands W d ok X = qed W (raw X ∷ []) ∵ says ! ok $ done !
 
-pub free : {M : Type 1} {𝓤 : URA M} {H : Heap 𝓤} {A : Atoms 𝓤} (W : Given 𝓤 H A) (X : SProp 𝓤) → ent 𝓤 X (sep 𝓤 X (emp 𝓤))
-free W X = qed W (raw X ∷ []) ∵ frame ! $ done !
+-- a function of the parts calls `open`, and keeps the slice: a `&[u8]` is Copy
+pub open-asks : {M : Type 1} {𝓤 : URA M} {H : Heap 𝓤} {A : Atoms 𝓤} (W : Given 𝓤 H A) (κ : Lft) (q : Share) (d : SheetReader)
+    → ent 𝓤 (entry 𝓤 H A κ q d Parts) (sep 𝓤 (Promise 𝓤 H A Parts (open-does 𝓤) .pre (to W (open-does 𝓤) κ q d Parts)) (sem 𝓤 H A (Bytes κ (d .bytes))))
+open-asks {𝓤 = 𝓤} {H = H} {A = A} W κ q d =
+    qed W (token 𝓤 H A κ q d ∷ ‵ (OwnParts κ d) ∷ []) ∵ move ! (1 ∷ []) $ fsplit ! $ use1 W (‵ (Bytes κ (d .bytes)) ⊛ ‵ (Bytes κ (d .bytes))) (shr-slice-copy 𝓤 H A W (named 0) κ u8 .twice (d .bytes) _) $ split ! $ move ! (0 ∷ 2 ∷ []) $ fjoin ! $ move ! (2 ∷ 0 ∷ []) $
+    use2 W (raw (Promise 𝓤 H A Parts (open-does 𝓤) .pre (to W (open-does 𝓤) κ q d Parts))) (qed W (token 𝓤 H A κ q d ∷ ‵ (OwnParts κ d) ∷ []) ∵ join ! $ frame ! $ done !) $ frame ! $ done !
 
 -- ---- a walk of a function's MIR is a proof of its contract
 
@@ -244,25 +217,25 @@ module _ {M : Type 1} (𝓤 : URA M) (H : Heap 𝓤) (𝓜 : Model 𝓤 H) (𝓖
 
   module _ (c : Does 𝓤) (k : Name) (f : Fn) (closed : Closed 𝓤 H C Λ k f) where
     pub reader-meets : ((κ : Lft) (q : Share) (d : SheetReader) → Holds (hasTy (T′.mir (named 0)) (T′.lowered d)) × WT (T′.lowered d)
-        → ent 𝓤 (sep 𝓤 (reader-entry 𝓤 H (𝓖 .A) κ q d) (c .asks d)) (WpFn 𝓤 H C Λ f (T′.lowered d ∷ []) (reader-post W c κ q d)))
-        → Triple 𝓤 (C k) (ReaderDoes 𝓤 H (𝓖 .A) c)
+        → ent 𝓤 (sep 𝓤 (entry 𝓤 H (𝓖 .A) κ q d Reader) (c .asks d)) (WpFn 𝓤 H C Λ f (T′.lowered d ∷ []) (post W c κ q d Reader)))
+        → Triple 𝓤 (C k) (Promise 𝓤 H (𝓖 .A) Reader c)
     unfolding tablesOf
     reader-meets walk =
-        entered 𝓤 H (ReaderDoes 𝓤 H (𝓖 .A) c) C Λ k f closed
-        (walk-meets 𝓤 H (𝓖 .A) (ofReader (c .gives)) (stayed-reader (c .gives)) W (goes-none 𝓤 H (𝓖 .A) W 1 B yes (λ κs x f. refl), tt) (reader-clauses 𝓤 H (𝓖 .A) c) (WpFn 𝓤 H C Λ f) (WpFn-mono 𝓤 H (W .laws) (tablesOf 𝓤 H 𝓜 (tables 𝓤 H 𝓜 𝓡 env)) f)
-        (walked 𝓤 H (𝓖 .A) (ofReader (c .gives)) (stayed-reader (c .gives)) (reader-clauses 𝓤 H (𝓖 .A) c) (WpFn 𝓤 H C Λ f) (λ κs. (LL.vals (D (κs .0)) (L (κs .0)), tt)) (λ κs. (LL.tells (D (κs .0)) (L (κs .0)), tt))
+        entered 𝓤 H (Promise 𝓤 H (𝓖 .A) Reader c) C Λ k f closed
+        (walk-meets 𝓤 H (𝓖 .A) (ended Reader (c .gives)) (Reader .stayed) W (goes-none 𝓤 H (𝓖 .A) W 1 B yes (λ κs x f. refl), tt) (clauses 𝓤 H (𝓖 .A) Reader c) (WpFn 𝓤 H C Λ f) (WpFn-mono 𝓤 H (W .laws) (tablesOf 𝓤 H 𝓜 (tables 𝓤 H 𝓜 𝓡 env)) f)
+        (walked 𝓤 H (𝓖 .A) (ended Reader (c .gives)) (Reader .stayed) (clauses 𝓤 H (𝓖 .A) Reader c) (WpFn 𝓤 H C Λ f) (λ κs. (LL.vals (D (κs .0)) (L (κs .0)), tt)) (λ κs. (LL.tells (D (κs .0)) (L (κs .0)), tt))
         (λ κs qs bounds a g are. walk (κs .0) (qs .0) (a .0) (LL.lawful (D (κs .0)) (L (κs .0)) 𝓤 H (𝓖 .A) W .typed (a .0) _ (are .0) .0))))
 
     pub parts-meet : ((κ : Lft) (q : Share) (d : SheetReader) → Is (ShrSlice (named 0) κ u8) (d .bytes) (vbytes (d .bytes) ∷ []) → d .row < 2 ^ 64 → d .at < 2 ^ 64
-        → ent 𝓤 (sep 𝓤 (parts-entry 𝓤 H (𝓖 .A) κ q d) (c .asks d)) (WpFn 𝓤 H C Λ f (vbytes (d .bytes) ∷ vint w64 (d .row) ∷ vint w64 (d .at) ∷ []) (parts-post W c κ q d)))
-        → Triple 𝓤 (C k) (PartsDo 𝓤 H (𝓖 .A) c)
+        → ent 𝓤 (sep 𝓤 (entry 𝓤 H (𝓖 .A) κ q d Parts) (c .asks d)) (WpFn 𝓤 H C Λ f (vbytes (d .bytes) ∷ vint w64 (d .row) ∷ vint w64 (d .at) ∷ []) (post W c κ q d Parts)))
+        → Triple 𝓤 (C k) (Promise 𝓤 H (𝓖 .A) Parts c)
     unfolding tablesOf
     parts-meet walk =
-        entered 𝓤 H (PartsDo 𝓤 H (𝓖 .A) c) C Λ k f closed
-        (walk-meets 𝓤 H (𝓖 .A) (ofParts (c .gives)) (stayed-parts (c .gives)) W
+        entered 𝓤 H (Promise 𝓤 H (𝓖 .A) Parts c) C Λ k f closed
+        (walk-meets 𝓤 H (𝓖 .A) (ended Parts (c .gives)) (Parts .stayed) W
         (goes-none-slice 𝓤 H (𝓖 .A) W 1 (0 ∷ []) tt (plain (λ _. u8)) yes, (goes-none 𝓤 H (𝓖 .A) W 1 (λ _. usize) yes (λ κs x f. refl), (goes-none 𝓤 H (𝓖 .A) W 1 (λ _. usize) yes (λ κs x f. refl), tt)))
-        (parts-clauses 𝓤 H (𝓖 .A) c) (WpFn 𝓤 H C Λ f) (WpFn-mono 𝓤 H (W .laws) (tablesOf 𝓤 H 𝓜 (tables 𝓤 H 𝓜 𝓡 env)) f)
-        (walked 𝓤 H (𝓖 .A) (ofParts (c .gives)) (stayed-parts (c .gives)) (parts-clauses 𝓤 H (𝓖 .A) c) (WpFn 𝓤 H C Λ f) (λ κs. (slice-vals, (uint-vals w64, (uint-vals w64, tt)))) (λ κs. (shr-slice-tells (named 0) (κs .0) u8, (uint-tells w64, (uint-tells w64, tt))))
+        (clauses 𝓤 H (𝓖 .A) Parts c) (WpFn 𝓤 H C Λ f) (WpFn-mono 𝓤 H (W .laws) (tablesOf 𝓤 H 𝓜 (tables 𝓤 H 𝓜 𝓡 env)) f)
+        (walked 𝓤 H (𝓖 .A) (ended Parts (c .gives)) (Parts .stayed) (clauses 𝓤 H (𝓖 .A) Parts c) (WpFn 𝓤 H C Λ f) (λ κs. (slice-vals, (uint-vals w64, (uint-vals w64, tt)))) (λ κs. (shr-slice-tells (named 0) (κs .0) u8, (uint-tells w64, (uint-tells w64, tt))))
         (λ κs qs bounds a g are. walk (κs .0) (qs .0) (readerAt (a .0) (a .1 .0) (a .1 .1 .0)) (are .0) (are .1 .0 .1) (are .1 .1 .0 .1))))
 
 -- ---- a function of a reader that returns what a function of its parts does
@@ -279,16 +252,16 @@ passing τ f = record {
 }
 
 module _ {M : Type 1} {𝓤 : URA M} {H : Heap 𝓤} {A : Atoms 𝓤} (W : Given 𝓤 H A) (c : Does 𝓤) (τ : Ty) (has : (κ : Lft) (r : c .gives .row (κ, tt) .Denot) (u : Val) → Is (c .gives .row (κ, tt)) r (u ∷ []) → Holds (hasTy τ u) × WT u)
-    (C : Calls 𝓤 H) (Λ : Loops 𝓤 H) (fm : FmC 𝓤 H (W .laws) C) (f : Name) (known : Triple 𝓤 (C f) (PartsDo 𝓤 H A c)) (κ : Lft) (q : Share) (d : SheetReader) where
-  passes : Holds (hasTy (T′.mir (named 0)) (T′.lowered d)) × WT (T′.lowered d) → ent 𝓤 (sep 𝓤 (reader-entry 𝓤 H A κ q d) (c .asks d)) (WpFn 𝓤 H C Λ (passing τ f) (T′.lowered d ∷ []) (reader-post W c κ q d))
+    (C : Calls 𝓤 H) (Λ : Loops 𝓤 H) (fm : FmC 𝓤 H (W .laws) C) (f : Name) (known : Triple 𝓤 (C f) (Promise 𝓤 H A Parts c)) (κ : Lft) (q : Share) (d : SheetReader) where
+  passes : Holds (hasTy (T′.mir (named 0)) (T′.lowered d)) × WT (T′.lowered d) → ent 𝓤 (sep 𝓤 (entry 𝓤 H A κ q d Reader) (c .asks d)) (WpFn 𝓤 H C Λ (passing τ f) (T′.lowered d ∷ []) (post W c κ q d Reader))
   passes wt =
-      qed W (raw (sep 𝓤 (reader-entry 𝓤 H A κ q d) (c .asks d)) ∷ []) ∵ enter ! C Λ (passing τ f) (T′.lowered d ∷ []) _ $
+      qed W (raw (sep 𝓤 (entry 𝓤 H A κ q d Reader) (c .asks d)) ∷ []) ∵ enter ! C Λ (passing τ f) (T′.lowered d ∷ []) _ $
       alloc1 ! (λ l₀. alloc1 ! (λ l₁. alloc1 ! (λ l₂. alloc1 ! (λ l₃. alloc1 ! (λ l₄. alloc0 ! $ params1 ! $ pass1 ! (init ! 6 refl wt) $ pass0 ! $
       assigns ! (of-opd ! (load ! (from ! (fld ! refl (stop !))) (look-in ! 6 (sub ! 0 refl (whole !))))) (from ! (stop !)) (init ! 4 refl (tt, wt .1 .0)) $
       assigns ! (of-opd ! (load ! (from ! (fld ! refl (stop !))) (look-in ! 6 (sub ! 1 refl (whole !))))) (from ! (stop !)) (init ! 2 refl (tt, wt .1 .1 .0)) $
       assigns ! (of-opd ! (load ! (from ! (fld ! refl (stop !))) (look-in ! 6 (sub ! 2 refl (whole !))))) (from ! (stop !)) (init ! 0 refl (tt, wt .1 .1 .1 .0)) $
-      move ! (10 ∷ []) $ use1 W (raw (PartsDo 𝓤 H A c .pre (to-parts W c κ q d)) ⊛ ‵ (Own κ d)) (parts-ask W c κ q d) $ split ! $
-      calls-at ! fm (PartsDo 𝓤 H A c) known (to-parts W c κ q d) (and-then ! (load ! (from ! (stop !)) (look ! 6 refl)) (and-then ! (load ! (from ! (stop !)) (look ! 4 refl)) (and-then ! (load ! (from ! (stop !)) (look ! 2 refl)) (no-more !)))) (λ u. parts-back W c κ q d ! tt u (λ r e is.
+      move ! (10 ∷ []) $ use1 W (raw (Promise 𝓤 H A Parts c .pre (to W c κ q d Parts)) ⊛ ‵ (Own κ d)) (parts-ask W c κ q d) $ split ! $
+      calls-at ! fm (Promise 𝓤 H A Parts c) known (to W c κ q d Parts) (and-then ! (load ! (from ! (stop !)) (look ! 6 refl)) (and-then ! (load ! (from ! (stop !)) (look ! 4 refl)) (and-then ! (load ! (from ! (stop !)) (look ! 2 refl)) (no-more !)))) (λ u. back W c κ q d ! tt Parts u (λ r e is.
       -- [the result; the token; what the reader owns; _4; …; _3; …; _2; …; _1; …; room for _0; …]
       land ! (from ! (stop !)) (init ! 11 refl (has κ r u is)) $
       returns ! (look ! 11 refl) $ forget ! 3 refl $ forget ! 5 refl $ forget ! 7 refl $ forget ! 9 refl $ forget ! 11 refl $
@@ -296,6 +269,6 @@ module _ {M : Type 1} {𝓤 : URA M} {H : Heap 𝓤} {A : Atoms 𝓤} (W : Given
 
 pub passing-meets : {M : Type 1} (𝓤 : URA M) (H : Heap 𝓤) (𝓜 : Model 𝓤 H) (𝓖 : GhostRules 𝓤 H) (𝓡 : Running 𝓤 H 𝓜) (env : Env) (c : Does 𝓤) (τ : Ty)
     → ((κ : Lft) (r : c .gives .row (κ, tt) .Denot) (u : Val) → Is (c .gives .row (κ, tt)) r (u ∷ []) → Holds (hasTy τ u) × WT u) → (k f : Name) → Closed 𝓤 H (tables 𝓤 H 𝓜 𝓡 env .C) (tables 𝓤 H 𝓜 𝓡 env .Λ) k (passing τ f)
-    → (callee : Routine) → env f ≡ callee → Triple 𝓤 (𝓡 .run callee) (PartsDo 𝓤 H (𝓖 .A) c) → Triple 𝓤 (tables 𝓤 H 𝓜 𝓡 env .C k) (ReaderDoes 𝓤 H (𝓖 .A) c)
+    → (callee : Routine) → env f ≡ callee → Triple 𝓤 (𝓡 .run callee) (Promise 𝓤 H (𝓖 .A) Parts c) → Triple 𝓤 (tables 𝓤 H 𝓜 𝓡 env .C k) (Promise 𝓤 H (𝓖 .A) Reader c)
 passing-meets 𝓤 H 𝓜 𝓖 𝓡 env c τ has k f closed callee calls met =
-    reader-meets 𝓤 H 𝓜 𝓖 𝓡 env c k (passing τ f) closed (passes (givenOf 𝓤 H 𝓜 𝓖) c τ has _ _ (frames 𝓤 H 𝓜 𝓖 𝓡 env) f (cited 𝓤 H (PartsDo 𝓤 H (𝓖 .A) c) 𝓜 𝓡 env f callee calls met))
+    reader-meets 𝓤 H 𝓜 𝓖 𝓡 env c k (passing τ f) closed (passes (givenOf 𝓤 H 𝓜 𝓖) c τ has _ _ (frames 𝓤 H 𝓜 𝓖 𝓡 env) f (cited 𝓤 H (Promise 𝓤 H (𝓖 .A) Parts c) 𝓜 𝓡 env f callee calls met))

@@ -1,9 +1,9 @@
 -- `sheet_reader::body` meets its contract: it passes the reader's parts on to `body_at`.
 -- Assumes nothing.
-use Rattle.rows.proofs.Walks.{named, u8, givenOf, shr-slice-lawful}
-use Rattle.sheet_reader.proofs.{Walking.{body-does, passing-meets}, body_at.Symbol.{name as #body-at, routine as body-at}, body_at.Met.{met as body-at-met}, body.Key.{name as #body}, body.Statement.statement}
 use denote.Slice.{sliceTy}
 use mir.Syntax.{imm, tyInt, tyRef, w8}
+use Rattle.rows.proofs.Walks.{named, u8, givenOf, shr-slice-lawful}
+use Rattle.sheet_reader.proofs.{Walking.{body-does, passing-meets}, body_at.Symbol.{name as #body-at, routine as body-at}, body_at.Met.{met as body-at-met}, body.Key.{name as #body}, body.Statement.statement}
 use Rattle.sheet_reader.proofs.body.Code as code
 
 pub body-spec : {M : Type 1} → statement M

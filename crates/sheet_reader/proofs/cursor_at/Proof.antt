@@ -9,9 +9,6 @@ Inv-loop s k c₀ i₀ c i = (i ≤ k) × (c ≡ cursorAt s i)
 abbrev μ-loop : tie.MeasureT-loop
 μ-loop s k c₀ i₀ c i = k - i
 
-new-requires : tie.Need-new-requires Inv-loop μ-loop
-new-requires c κs = let b = readable-bounds _ (c .before .pre .0) in omega arith
-
 new-requires-2 : tie.Need-new-requires-2 Inv-loop μ-loop
 new-requires-2 c κs = let b = readable-bounds _ (c .before .before .before .pre .0) in rw (c .rows .ensures, c .before .new .ensures) (omega arith)
 
@@ -29,5 +26,5 @@ returns c = let z : c .before .loop .i ≡ c .before .before .before .before .be
 
 pub cursor-at-spec : {M : Type 1} → statement M
 cursor-at-spec =
-    tie.close (tie.spec Inv-loop μ-loop new-requires (λ c κs. search needs) new-requires-2 loop-holds cursor-row-requires (λ c. search needs)
-    (λ c. search needs) loop-again returns)
+    tie.close (tie.spec Inv-loop μ-loop (λ c κs. let b = readable-bounds _ (c .before .pre .0) in omega arith) (λ c κs. search needs)
+    new-requires-2 loop-holds cursor-row-requires (λ c. search needs) (λ c. search needs) loop-again returns)

@@ -1,4 +1,4 @@
-use Rattle.rows.proofs.Kit.{refl, needs}
+use Rattle.rows.proofs.Kit.{refl}
 use Rattle.sheet_reader.proofs.cursor_row.Statement.{statement}
 use Rattle.sheet_reader.proofs.cursor_row.Tie as tie
 
