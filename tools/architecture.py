@@ -89,7 +89,8 @@ def of_names(page):
         file = CRATES / f"{path}.antt"
         if not file.exists() or not re.search(rf"(^|\s){re.escape(name)}\b.*[:=]", file.read_text(), re.M):
             yield f"ARCHITECTURE: {path} does not define {name}"
-    for crate, name in set(re.findall(r"`(\w+)::(?:\w+::)?(\w+)`", rows)):
+    functions = set(re.findall(r"`([a-z]\w*)::(?:\w+::)?(\w+)`", rows))
+    for crate, name in sorted(functions):
         sources = "\n".join(f.read_text() for f in (CRATES / crate / "src").glob("*.rt"))
         if not re.search(rf"\bfn {name}\b", sources):
             yield f"ARCHITECTURE: {crate} has no function {name}"

@@ -1,13 +1,12 @@
 -- Where every row was passed, none of the refusals of rows and headers applies.
--- Assumes nothing.
 use Rattle.rows.{proofs.Kit.{ℕ, _+_, _-_, _≤_, _<_, arith, _≡_, ap, _∙_, Bool, false, List, [], _∷_, length, le-ltb}, specs.Below.anyBelow, proofs.BelowLaws.none-any}
 use Rattle.igvm_defs.{specs.Refusals.{fault, noFault, refuse, isFault, isRefusal}, proofs.RefusalLaws.{no-fault, row-refusal, fault-end}}
 use Rattle.sheet.{specs.declared.Cursor.Cursor, specs.Head.{limits, headOf, rowCount, bodiesAt, startFault, firstDirective}, specs.Table.offsetOf, specs.Read.{endFault, rowsRefusal}, specs.Walk.ReadTo, proofs.Readable.start-says, proofs.ReadLaws.rows-end}
+use Rattle.sheet_headers.{specs.Headers.sheetHeaders, proofs.HeaderLaws.sheet-counts}
 use Rattle.rules.{specs.Verdict.{directiveFaults, platformFaults, initializationFaults, platformsRefusal, directivesRefusal}, proofs.Acceptance.{platforms-say, initializations-say, headers-say}}
 use Rattle.contexts.specs.Contexts.{anyLacks}
 use Rattle.initialization_check.{specs.declared.RelocRegions.RelocRegions, specs.Record.{anyRegion, regionsIn, HoldsRows}}
 use Rattle.directive_check.{specs.Record.{HoldsContexts, lacksContext}, proofs.DirectiveRecordLaws.holds-no-contexts}
-use Rattle.sheet_headers.{specs.Headers.sheetHeaders, proofs.HeaderLaws.sheet-counts}
 use Rattle.directive_pass.proofs.DirectivePass.{directives-last}
 use Rattle.platform_accept.specs.Accepted.{PlatformsAccepted, HoldsCca}
 use Rattle.initialization_accept.specs.Accepted.{InitializationsAccepted}

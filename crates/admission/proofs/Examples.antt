@@ -1,5 +1,4 @@
 -- Two lines, by computing.
--- Assumes nothing.
 use Rattle.rows.proofs.Kit.{_≡_, refl, [], _∷_}
 use Rattle.igvm_defs.specs.Refusals.{refusal, noRefusal, isRefusal}
 use Rattle.admission.specs.Line.{digitsIn, acceptedLine, refusedLine, lineOf}

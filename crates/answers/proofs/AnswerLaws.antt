@@ -1,5 +1,4 @@
 -- What is known of a sheet where a call is not refused.
--- Assumes nothing.
 use Rattle.rows.proofs.Kit.{_≡_, refl, false, List, _≢_, Option, none, some, ℕ, _*_, _/_, _≤_, eqb, ltb, ltb-false, eqb-false}
 use Rattle.igvm_defs.{specs.declared.Refusal.Refusal, specs.Refusals.{noFault, isRefusal, inRow}, proofs.RefusalLaws.row-refusal}
 use Rattle.sheet.{specs.Head.Limits, specs.Read.{Readable, sheetRefusal}, proofs.Readable.sheet-says}

@@ -1,7 +1,6 @@
 -- Laws of the table of areas: where an area's place is, what a new node changes, and the empty table.
--- Assumes nothing.
 use lib.ListN.{length-replicate}
-use Rattle.rows.{proofs.Kit.{ℕ, zero, suc, _+_, _*_, _-_, _/_, _%_, _≤_, _<_, decLt, ℕ-discrete, arith, true, false, cond, List, _≢_, inl, inr, _≡_, refl, sym, ap, _∙_, eqb, length, getD, set, replicate, length-set, getD-set-same, getD-set-other, lt-ltb, le-ltb, eq-eqb, ne-eqb, eqb-true}, proofs.Bools.{which, not-both, or-left, or-right, or-cases, or-both-false}}
+use Rattle.rows.{proofs.Kit.{ℕ, zero, suc, _+_, _*_, _-_, _/_, _%_, _≤_, _<_, decLt, ℕ-discrete, arith, true, false, cond, List, _≢_, inl, inr, _≡_, refl, sym, ap, _∙_, eqb, length, getD, set, replicate, length-set, getD-set-same, getD-set-other, lt-ltb, le-ltb, eq-eqb, ne-eqb, eqb-true}, proofs.Bools.{which, not-both, or-left, or-right, or-cases, or-both-false}, proofs.BelowLaws.zeros}
 use Rattle.area_table.specs.AreaTable.{root, ends, child, findFrom, placeOf, stateAt, stateIn, HoldsAreas}
 
 root-small : (x : ℕ) → root x < 1024
@@ -166,9 +165,7 @@ data Walk (links′ : List ℕ) (p a x r r′ : ℕ) : Type 0 where
 module _ (links areas links′ areas′ : List ℕ) (c p a : ℕ) (g : Grown links areas links′ areas′ c p a) (x : ℕ) where
   ends-other : (q : ℕ) → q ≢ p → q ≢ 1024 → ends links′ areas′ x q ≡ ends links areas x q
   unfolding ends
-  ends-other q n m =
-      let k = g .counted q in
-      rw (g .links-other q n m, g .areas-other (getD links q 0) (λ e. omega arith))
+  ends-other q n m = let k = g .counted q in rw (g .links-other q n m, g .areas-other (getD links q 0) (λ e. omega arith))
 
   child-other : (rest q : ℕ) → q ≢ p → q ≢ 1024 → child links′ rest q ≡ child links rest q
   unfolding child
@@ -256,8 +253,7 @@ module _ (links areas states links′ areas′ states′ : List ℕ) (c p a : �
 -- ---- what the arrays hold
 
 pub holds-same : {few links areas states : List ℕ} {f g : ℕ → ℕ} → HoldsAreas few links areas states f → ((x : ℕ) → f x ≡ g x) → HoldsAreas few links areas states g
-holds-same h e =
-    record { sizes = h .sizes; told = λ x n. h .told x n ∙ e x; counted = h .counted; fresh = h .fresh }
+holds-same h e = record { sizes = h .sizes; told = λ x n. h .told x n ∙ e x; counted = h .counted; fresh = h .fresh }
 
 -- place r is the area's: its node is one of the table's
 pub place-link : (links areas : List ℕ) (x r : ℕ) → r ≡ placeOf links areas x → r < 3074 → getD links r 0 < 1025
@@ -403,11 +399,6 @@ holds-empty few links areas states sizes no-few no-link =
       counted = λ p. omega (arith, no-link p);
       fresh = λ p _. no-link p;
     }
-
-zeros : (n i : ℕ) → getD {A = ℕ} (replicate n 0) i 0 ≡ 0
-zeros zero i = refl
-zeros (suc n) zero = refl
-zeros (suc n) (suc i) = zeros n i
 
 pub holds-none : HoldsAreas (replicate 1024 0) (replicate 3074 0) (replicate 1025 0) (replicate 1025 0) (λ _. 0)
 holds-none =

@@ -1,14 +1,13 @@
 -- One row more among the directive rows that are in order.
--- Assumes nothing.
-use Rattle.rows.{proofs.Kit.{ℕ, _+_, _-_, _≤_, _<_, arith, _≡_, refl, sym, ap, _∙_, Bool, true, false, _&&_, _||_, or-false, none, List, [], eqb, length, take, drop}, specs.Rows.{Rows, any, before}, proofs.Bools.or-false-parts, proofs.BelowLaws.any-more}
+use Rattle.rows.{proofs.Kit.{ℕ, _+_, _-_, _≤_, _<_, arith, _≡_, refl, sym, _∙_, Bool, true, false, _&&_, _||_, or-false, none, List, [], eqb, length, take, drop}, specs.Rows.{Rows, any, before}, proofs.Bools.or-false-parts, proofs.BelowLaws.any-more}
 use Rattle.igvm_defs.{specs.declared.Arch.Arch, specs.Kinds.{kindOf, directiveList}, specs.Refusals.isFault}
 use Rattle.sheet.{specs.declared.Cursor.Cursor, specs.Head.{headOf, rowCount, firstDirective}, specs.Table.{rowKind, rowLength, bodyOf, offsetOf}, specs.Walk.ReadTo, proofs.Readable.{RowOk, directive-list, body-length}}
+use Rattle.sheet_reader.{specs.declared.SheetRow.SheetRow, specs.Reading.{readAt, cursorAfter}, proofs.ReaderLaws.{Found, kind-found, list-found, room-row, body-found, read-after}}
 use Rattle.initialization_header.specs.declared.IgvmInitializationHeader.{IgvmInitializationHeader}
 use Rattle.directive_header.{specs.declared.IgvmDirectiveHeader.IgvmDirectiveHeader, specs.Directives.directiveOf, specs.Fields.{kindNumber, areaOf, isParameter}, proofs.DirectiveLaws.{kind-directive, area-directive}}
+use Rattle.sheet_headers.{specs.Headers.sheetHeaders, proofs.ListLaws.directive-header}
 use Rattle.rules.{specs.Directives.{allocates, inserts, badArea, insideTable}, specs.Verdict.directiveFaults, proofs.Acceptance.directive-says}
 use Rattle.directive_check.{specs.Record.namesArea, proofs.DirectiveRecordLaws.{holds-next, names-no-area}}
-use Rattle.sheet_reader.{specs.declared.SheetRow.SheetRow, specs.Reading.{readAt, cursorAfter}, proofs.ReaderLaws.{Found, kind-found, list-found, room-row, body-found, read-after}}
-use Rattle.sheet_headers.{specs.Headers.sheetHeaders, proofs.ListLaws.directive-header}
 use Rattle.directive_body.specs.Sound.{Sound}
 use Rattle.directive_row.{specs.Row.{ContextsNext, PlainRow, stateOf, stateAfter}, proofs.PlainLaws.page-plain}
 use Rattle.directive_accept.specs.Accepted.{DirectivesAccepted, stateBefore, Onward, PlainPassed}

@@ -1,13 +1,12 @@
 -- Rows in order that name an area, and the rows with a table of areas.
--- Assumes nothing.
 use Rattle.rows.{proofs.Kit.{ℕ, _-_, _≤_, _<_, arith, _≡_, refl, sym, _∙_, true, false, or-false, List, [], _∷_, length, getD, take, drop, replicate}, specs.Below.anyBelow, specs.Rows.{Rows, before}}
-use Rattle.sheet.{specs.declared.Cursor.Cursor, specs.Head.{headOf, rowCount, firstDirective}, specs.Table.{rowKind, bodyOf}, specs.Walk.ReadTo}
-use Rattle.directive_header.{specs.declared.IgvmDirectiveHeader.IgvmDirectiveHeader, specs.Directives.directiveOf, specs.Fields.isParameter}
 use Rattle.masks.specs.Masks.{shares}
+use Rattle.sheet.{specs.declared.Cursor.Cursor, specs.Head.{headOf, rowCount, firstDirective}, specs.Table.{rowKind, bodyOf}, specs.Walk.ReadTo}
+use Rattle.sheet_reader.{specs.declared.SheetRow.SheetRow, specs.Reading.{readAt, cursorAfter}, proofs.ReaderLaws.{list-found, body-found}}
+use Rattle.directive_header.{specs.declared.IgvmDirectiveHeader.IgvmDirectiveHeader, specs.Directives.directiveOf, specs.Fields.isParameter}
+use Rattle.sheet_headers.specs.Headers.{sheetHeaders}
 use Rattle.rules.specs.Directives.{isContext}
 use Rattle.directive_check.proofs.DirectiveRecordLaws.{holds-no-contexts}
-use Rattle.sheet_reader.{specs.declared.SheetRow.SheetRow, specs.Reading.{readAt, cursorAfter}, proofs.ReaderLaws.{list-found, body-found}}
-use Rattle.sheet_headers.specs.Headers.{sheetHeaders}
 use Rattle.area_table.{specs.AreaTable.HoldsAreas, proofs.AreaTableLaws.{holds-same, holds-none}}
 use Rattle.directive_row.{specs.Row.{AreaRow, NamedRow, ContextsNext, stateOf}, proofs.AreaRowLaws.{parameter-table, parameter-context, parameter-state}}
 use Rattle.directive_accept.specs.Accepted.{DirectivesAccepted, NamedAccepted, PlainAccepted, PlainPassed, AreasPassed, Onward, stateBefore}

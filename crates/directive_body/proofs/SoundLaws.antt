@@ -1,11 +1,10 @@
 -- What the tests of a row's body give: the row is in order by itself, kind by kind.
--- Assumes nothing.
 use Rattle.rows.proofs.Kit.{ℕ, _+_, _-_, _/_, _%_, _≤_, arith, _≡_, refl, true, List, leb, length, le-leb, le-ltb}
 use Rattle.le.specs.Le.{byteAt, leAt}
 use Rattle.igvm_defs.{specs.declared.Arch.Arch, specs.Kinds.{kindOf, spans, lengthOk}, specs.Refusals.isFault}
+use Rattle.addresses.specs.Addresses.{isMultiple, onPage}
 use Rattle.sheet.specs.Read.{codesOk}
 use Rattle.directive_header.specs.Directives.{directiveOf}
-use Rattle.addresses.specs.Addresses.{isMultiple, onPage}
 use Rattle.rules.specs.Directives.{ownDirectiveFault, wrongContextArch}
 use Rattle.directive_body.specs.Sound.{Sound}
 

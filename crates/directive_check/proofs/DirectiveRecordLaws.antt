@@ -1,18 +1,12 @@
 -- Laws of the contexts' masks, and of the area rule over numbers.
--- Assumes nothing.
-use Rattle.rows.{proofs.Kit.{ℕ, zero, suc, _+_, _<_, arith, _≡_, refl, sym, ap, _∙_, Bool, true, false, cond, not, _&&_, _||_, or-false, List, [], _∷_, none, bitOr, eqb, length, getD, set, replicate, getD-set-same, getD-set-other, eqb-true, eqb-false}, specs.Below.anyBelow, specs.Rows.{Rows, any, before}, proofs.BelowLaws.any-more, proofs.Bools.or-false-parts}
+use Rattle.rows.{proofs.Kit.{ℕ, _+_, _<_, arith, _≡_, refl, sym, ap, _∙_, Bool, true, false, cond, not, _&&_, _||_, or-false, List, [], _∷_, none, bitOr, eqb, length, getD, set, getD-set-same, getD-set-other, eqb-true, eqb-false}, specs.Below.anyBelow, specs.Rows.{Rows, any, before}, proofs.BelowLaws.{zeros, any-more}, proofs.Bools.or-false-parts}
 use Rattle.igvm_defs.specs.Kinds.{kindOf, directiveList}
-use Rattle.directive_header.{specs.declared.IgvmDirectiveHeader.IgvmDirectiveHeader, specs.declared.IgvmDirectiveHeader.the-variants.{PageData, ParameterArea, VpCount, EnvironmentInfo, Srat, Madt, Slit, Pptt, MmioRanges, MemoryMap, CommandLine, DeviceTree, RequiredMemory, SnpVpContext, X64NativeVpContext, X64VbsVpContext, AArch64VbsVpContext, AArch64CcaVpContext, ParameterInsert, ErrorRange, SnpIdBlock, VbsMeasurement}, specs.Directives.directiveOf, proofs.DirectiveLaws.kind-directive, specs.Fields.{kindNumber, areaOf, isParameter, areaNamed}}
 use Rattle.masks.{specs.Masks.shares, proofs.MaskLaws.{shares-zero-left, shares-or}}
+use Rattle.directive_header.{specs.declared.IgvmDirectiveHeader.IgvmDirectiveHeader, specs.declared.IgvmDirectiveHeader.the-variants.{PageData, ParameterArea, VpCount, EnvironmentInfo, Srat, Madt, Slit, Pptt, MmioRanges, MemoryMap, CommandLine, DeviceTree, RequiredMemory, SnpVpContext, X64NativeVpContext, X64VbsVpContext, AArch64VbsVpContext, AArch64CcaVpContext, ParameterInsert, ErrorRange, SnpIdBlock, VbsMeasurement}, specs.Directives.directiveOf, proofs.DirectiveLaws.kind-directive, specs.Fields.{kindNumber, areaOf, isParameter, areaNamed}}
 use Rattle.rules.{specs.declared.Region.Region, specs.Options.passes, specs.Directives.{allocates, inserts, isAllocated, badArea, isContext, noContext}}
 use Rattle.directive_check.specs.Record.{HoldsContexts, lacksContext, howOf, howNamed, namesArea, areaNumber}
 
 -- ---- contexts
-
-zeros : (n level : ℕ) → getD {A = ℕ} (replicate n 0) level 0 ≡ 0
-zeros zero level = refl
-zeros (suc n) zero = refl
-zeros (suc n) (suc level) = zeros n level
 
 pub holds-no-contexts : (xs : Rows IgvmDirectiveHeader) → HoldsContexts (0 ∷ 0 ∷ 0 ∷ []) (before 0 xs)
 unfolding anyBelow

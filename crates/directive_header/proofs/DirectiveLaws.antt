@@ -1,5 +1,4 @@
 -- Laws of directive headers.
--- Assumes nothing.
 use mir.Val.{hasKey}
 use types.Run.{OneOf}
 use Rattle.rows.proofs.Kit.{_≡_, refl, false, not, List, ℕ, _+_, T, eqb, tagOf}

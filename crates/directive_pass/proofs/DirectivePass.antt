@@ -1,15 +1,14 @@
 -- What the pass over directive rows cites: the rows of a readable sheet, what they tell of areas, and the refusal of the list.
--- Assumes nothing.
 use Rattle.rows.{proofs.Kit.{ℕ, _+_, _<_, _≤_, arith, _≡_, refl, sym, ap, _∙_, true, false, _&&_, _||_, List, eqb}, specs.Rows.{Rows, any, before}, proofs.BelowLaws.{any-more, any-same-tests}}
 use Rattle.igvm_defs.{specs.declared.Arch.Arch, specs.declared.Fault.Fault, specs.declared.Refusal.Refusal, specs.Kinds.directiveList, specs.Refusals.{fault, noFault, noRefusal, refuse, isFault, isRefusal, inRow, firstFault}, proofs.RefusalLaws.{row-refusal, orElse-first, orElse-later}}
 use Rattle.sheet.{specs.declared.Cursor.Cursor, specs.Head.{limits, headOf, firstDirective}, specs.Read.Readable, specs.Table.{rowKind, bodyOf}, specs.Walk.cursorAt, proofs.Readable.readable-bounds}
 use Rattle.initialization_header.specs.declared.IgvmInitializationHeader.{IgvmInitializationHeader}
 use Rattle.directive_header.{specs.declared.IgvmDirectiveHeader.IgvmDirectiveHeader, specs.Fields.{areaOf, areaNamed}, specs.Directives.directiveOf, proofs.DirectiveLaws.area-directive}
+use Rattle.sheet_headers.{specs.Headers.sheetHeaders, proofs.HeaderLaws.sheet-counts, proofs.ListLaws.{AtList, at-directive, directive-header, RowsReached, rows-next, rows-stop, rows-end, stopped}}
 use Rattle.rules.{specs.Regions.{regionPasses, tableHolds}, specs.Directives.{allocates, inserts, noContext}, specs.Headers.Headers, specs.Verdict.{directiveFaults, noMatchingVpContext, directivesRefusal}}
 use Rattle.clashes.specs.Clashes.{HoldsTables}
 use Rattle.initialization_check.{specs.declared.RelocRegions.RelocRegions, specs.Record.{entry, anyRegion, HoldsRegions}}
 use Rattle.directive_check.{specs.Record.{HoldsContexts, lacksContext, DirectiveStepped, howOf, howNamed, areaNumber}, proofs.DirectiveRecordLaws.{lacks-says, how-directive, allocates-says, inserts-says}}
-use Rattle.sheet_headers.{specs.Headers.sheetHeaders, proofs.HeaderLaws.sheet-counts, proofs.ListLaws.{AtList, at-directive, directive-header, RowsReached, rows-next, rows-stop, rows-end, stopped}}
 use Rattle.directive_pass.specs.Passed.{DirectivesPassed}
 
 -- ---- areas

@@ -1,12 +1,11 @@
 -- Rows that name an area: what is known of it tells the area rule, and what is known afterwards.
--- Assumes nothing.
 use Rattle.rows.{proofs.Kit.{ℕ, _≤_, _<_, arith, _≡_, refl, sym, ap, _∙_, Bool, true, false, cond, not, _||_, or-false, List, eqb, leb, length, leb-true, le-leb, eqb-true}, specs.Rows.{Rows, any}, proofs.Bools.{and-parts, and-both}}
 use Rattle.le.specs.Le.{leAt}
 use Rattle.igvm_defs.{specs.declared.Arch.Arch, specs.declared.Kind.Kind, specs.Kinds.{kindOf, spans, lengthOk, directiveList}, specs.Refusals.isFault, proofs.Runs.{each, _⨾_}}
+use Rattle.addresses.specs.Addresses.{onPage}
 use Rattle.sheet.specs.Read.{codesOk}
 use Rattle.initialization_header.specs.declared.IgvmInitializationHeader.{IgvmInitializationHeader}
 use Rattle.directive_header.{specs.declared.IgvmDirectiveHeader.IgvmDirectiveHeader, specs.Directives.directiveOf, specs.Fields.isParameter}
-use Rattle.addresses.specs.Addresses.{onPage}
 use Rattle.rules.{specs.Regions.{regionPasses, tableHolds}, specs.Directives.{ownDirectiveFault, wrongContextArch, allocates, inserts, isAllocated, badArea, insideTable, isContext}}
 use Rattle.area_table.{specs.AreaTable.{HoldsAreas, stateIn}, proofs.AreaTableLaws.holds-same}
 use Rattle.directive_body.specs.Sound.{Sound}
@@ -57,10 +56,7 @@ module _ (earlier : Rows IgvmDirectiveHeader) (b : List ℕ) (none : stateOf ear
   area-state x = go (eqb x (leAt 4 b 8)) refl
     where
       go : (t : Bool) → eqb x (leAt 4 b 8) ≡ t → cond t 1 (areaState (any (allocates x) earlier) (any (inserts x) earlier)) ≡ areaState (any (allocates x) earlier || t) (any (inserts x) earlier || false)
-      go true e =
-          let q : leAt 4 b 8 ≡ x = sym (eqb-true x (leAt 4 b 8) e) in
-          let (a, i) = none-says earlier x (rw q at none) in
-          rw (a, i)
+      go true e = let q : leAt 4 b 8 ≡ x = sym (eqb-true x (leAt 4 b 8) e) in let (a, i) = none-says earlier x (rw q at none) in rw (a, i)
       go false e = rw (or-false (any (allocates x) earlier), or-false (any (inserts x) earlier))
 
   pub area-row : (arch : Arch) (few links areas states : List ℕ) → Sound arch 33 b → HoldsAreas few links areas states (λ x. cond (eqb x (leAt 4 b 8)) 1 (stateOf earlier x))

@@ -1,11 +1,10 @@
 -- What the tests of a row that names no area give, kind by kind.
--- Assumes nothing.
 use Rattle.rows.proofs.Kit.{ℕ, _-_, _≤_, arith, _≡_, refl, sym, ap, _∙_, Bool, true, false, not, or-false, false≢true, List, bitOr, leb, length, getD, set, le-leb}
 use Rattle.le.specs.Le.{byteAt, leAt}
 use Rattle.igvm_defs.{specs.declared.Arch.Arch, specs.declared.Arch.the-variants.{X64, AArch64}, specs.Kinds.{kindOf, spans, lengthOk}, specs.Revision.{isX64, isAArch64}, specs.Refusals.isFault, proofs.VtlLaws.vtl-number}
+use Rattle.masks.specs.Masks.{shares}
 use Rattle.sheet.specs.Read.{codesOk}
 use Rattle.directive_header.specs.Directives.{directiveOf}
-use Rattle.masks.specs.Masks.{shares}
 use Rattle.rules.specs.Directives.{ownDirectiveFault, wrongContextArch, isContext}
 use Rattle.directive_check.{specs.Record.namesArea, proofs.DirectiveRecordLaws.context-set}
 use Rattle.directive_body.specs.Sound.{Sound}

@@ -1,9 +1,8 @@
 -- A region apart from what regions lie within overlaps none of them.
--- Assumes nothing.
 use Rattle.rows.{proofs.Kit.{_≡_, refl, sym, _∙_, Bool, true, false, cond, not, _&&_, _||_, _⊎_, inl, inr, none, some, ℕ, _+_, _≤_, arith, leb, ltb, leb-true, le-leb, le-ltb, not-true}, specs.Rows.{Rows, any, before}, proofs.Bools.{or-cases, or-left, or-right, or-false-parts, and-parts, and-both}, proofs.BelowLaws.any-more}
-use Rattle.initialization_header.specs.declared.IgvmInitializationHeader.{IgvmInitializationHeader}
 use Rattle.masks.{specs.Masks.shares, proofs.MaskLaws.{shares-sym, shares-or}}
 use Rattle.addresses.specs.Addresses.{meets}
+use Rattle.initialization_header.specs.declared.IgvmInitializationHeader.{IgvmInitializationHeader}
 use Rattle.rules.{specs.declared.Region.Region, specs.Regions.{regionOf, regionPasses, overlap}}
 use Rattle.extents.specs.{declared.Extent.Extent, declared.Reach.Reach, Extents.{apart, Widened, apartFrom, Covers}}
 

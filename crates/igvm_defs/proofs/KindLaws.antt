@@ -1,5 +1,4 @@
 -- Laws of the table of kinds: which kinds a list has, and that a body's fields lie within its least length.
--- Assumes nothing.
 use Rattle.rows.{proofs.Kit.{inl, inr, _≡_, refl, Bool, true, false, not, _&&_, _||_, false≢true, List, [], _∷_, ℕ, suc, _<_, _≤_, arith, leb, eqb, length, take, leb-true, eq-eqb}, proofs.Bools.{which, and-parts}}
 use Rattle.igvm_defs.specs.Kinds.{Span, lookup, spans, kindOf, fields, platformList, initializationList, directiveList}
 

@@ -1,5 +1,4 @@
 -- Laws of body lengths.
--- Assumes nothing.
 use Rattle.rows.{proofs.Bools.which, proofs.Kit.{inl, inr, _≡_, true, ℕ, _≤_, arith, leb-true, eqb-true}}
 use Rattle.igvm_defs.specs.{declared.Kind.Kind, Kinds.lengthOk}
 

@@ -1,5 +1,4 @@
 -- Laws of faults and refusals: whether there is one, as an equation, and which one it is.
--- Assumes nothing.
 use lib.Dec.{eqb·suc-zero}
 use Rattle.rows.{proofs.Kit.{_≡_, refl, ap, Bool, true, false, not, cond, _||_, Option, none, some, ℕ, suc, _+_, _<_, arith, ne-eqb}, specs.Below.{anyBelow, firstBelow}, proofs.BelowLaws.{any-below, none-any, first-any, first-at, first-says}}
 use Rattle.igvm_defs.specs.{declared.Refusal.Refusal, declared.Fault.Fault, Refusals.{refusal, noRefusal, fault, noFault, refuse, orFault, Then, isFault, isRefusal, inRow, orElse, refusalAt, firstFault}}

@@ -1,5 +1,4 @@
 -- Runs of numbers: a law for each number of a run, and what the `_` of a `match` knows where its other arms are a run.
--- Assumes nothing.
 use Rattle.rows.proofs.Kit.{_≡_, inl, inr, ℕ, zero, suc, _+_, _<_, _≤_, eq-or-lt-of-le, arith}
 
 -- a law for each of a, .., a + n - 1, from its proofs: (proof at a) ⨾ .. ⨾ (proof at a + n - 1) ⨾ tt

@@ -1,6 +1,5 @@
 -- A table's rule, proved at all of its entries at once: the table is what a function says of 0, 1, .., which antt computes; and what a
 -- lookup past every span gives.
--- Assumes nothing.
 use native.Mathlib.Nat.{suc-add, lt-of-lt-of-le}
 use lib.Dec.{ltb→lt}
 use Rattle.rows.proofs.Kit.{_≡_, refl, _∙_, ap, sym, Bool, true, false, _&&_, and-false, List, [], _∷_, ℕ, zero, suc, _+_, _<_, _≤_, zero-add, add-zero, add-suc, le-of-suc-le-suc, not-suc-le-zero, T, ltb, leb, getD, lt-leb}

@@ -1,5 +1,4 @@
 -- What an arm of a `match` on an enum knows that binds nothing, as `_` does: the variant's place, from 0, is one of a list.
--- Assumes nothing.
 use mir.Val.{hasKey}
 use types.Run.{OneOf, miss}
 use Rattle.rows.proofs.Kit.{ℕ, _+_, _≡_, subst, not, false, List, arith, T, eqb, ne-eqb}

@@ -1,5 +1,4 @@
 -- Laws of virtual trust levels.
--- Assumes nothing.
 use Rattle.rows.proofs.Kit.{_≡_, refl, ℕ, _≤_, arith}
 use Rattle.igvm_defs.specs.Vtls.{vtlOf, vtlNumber}
 use Rattle.igvm_defs.proofs.Runs.{each, _⨾_}

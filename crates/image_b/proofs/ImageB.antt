@@ -1,17 +1,16 @@
 -- Document 01's claims of image B, and what reading it finds after a change, by computation.
--- Assumes nothing.
 use lib.Count.{ones, onesIn}
 use Rattle.rows.{proofs.Kit.refl, specs.Below.{anyBelow, firstBelow, sumBelow, nthBelow}}
 use Rattle.le.specs.Le.{leAt}
 use Rattle.igvm_defs.{specs.Refusals.{isFault, isRefusal, inRow, orElse, firstFault}, specs.Kinds.{spans, kindOf, lengthOk}, specs.Platforms.{platformTypes, isPlatformType, platformTypeOf}, specs.Vtls.vtlOf, proofs.Runs._⨾_}
+use Rattle.masks.specs.Masks.{shares, matches, isOneBit}
+use Rattle.addresses.specs.Addresses.{isMultiple, contains, meets, endsBeyond, baseValid}
 use Rattle.sheet.{specs.Head.{limits, headOf, layoutOk, withinLimits, startFault, revisionOf, pageSizeFault}, specs.Table.{rowKind, rowLength, offsetOf, bodyOf}, specs.Read.{listAt, codesOk, rowFault, endFault, rowsRefusal, readRefusal, sheetRefusal}}
 use Rattle.platform_header.specs.Platforms.{platformOf}
 use Rattle.initialization_header.specs.Initializations.{initializationOf}
 use Rattle.directive_header.specs.Directives.{directiveOf}
-use Rattle.masks.specs.Masks.{shares, matches, isOneBit}
-use Rattle.addresses.specs.Addresses.{isMultiple, contains, meets, endsBeyond, baseValid}
-use Rattle.rules.{specs.Regions.{regionPasses, tablesShare, overlap}, specs.Platforms.{validatePlatform, sameType, ownPlatformFault, platformFault}, specs.Initializations.{validateRegion, initializationFault}, specs.Directives.{wrongContextArch, badArea, ownDirectiveFault, directiveFault, noContext}, specs.Verdict.{noPlatform, noMatchingVpContext, platformsRefusal, initializationsRefusal, directivesRefusal, headersRefusal}, specs.Relocations.{regionCount, regionAt}}
 use Rattle.sheet_headers.specs.Headers.{sheetHeaders}
+use Rattle.rules.{specs.Regions.{regionPasses, tablesShare, overlap}, specs.Platforms.{validatePlatform, sameType, ownPlatformFault, platformFault}, specs.Initializations.{validateRegion, initializationFault}, specs.Directives.{wrongContextArch, badArea, ownDirectiveFault, directiveFault, noContext}, specs.Verdict.{noPlatform, noMatchingVpContext, platformsRefusal, initializationsRefusal, directivesRefusal, headersRefusal}, specs.Relocations.{regionCount, regionAt}}
 use Rattle.answers.{specs.Verdict.verdictRefusal, specs.Relocations.{maskFault, regionFault, checkRefusal, checkOf}}
 use Rattle.image_b.specs.{ImageB.imageB, Claims.{claims, readings, AllTrue}}
 

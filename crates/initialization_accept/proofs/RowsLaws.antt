@@ -1,18 +1,17 @@
 -- The pass over the initialization rows: what holds at a turn of its loop, and that a row which it accepts leads to the next turn.
--- Assumes nothing.
 use Rattle.rows.{proofs.Kit.{_≡_, refl, sym, _∙_, Bool, true, false, cond, not, _&&_, _||_, List, none, some, ℕ, _+_, _-_, _*_, _≤_, _<_, arith, length, take, drop, set}, specs.Below.anyBelow, specs.Rows.{Rows, any, before}, proofs.Bools.or-false-parts, proofs.BelowLaws.any-more}
 use Rattle.igvm_defs.{specs.declared.Arch.Arch, specs.Refusals.isFault, specs.Revision.isX64}
 use Rattle.sheet.{specs.declared.Cursor.Cursor, specs.Head.{headOf, bodiesAt}, specs.Table.{rowKind, bodyOf}, specs.Walk.ReadTo, proofs.Readable.{body-length, initialization-list}}
+use Rattle.sheet_reader.{specs.declared.SheetRow.SheetRow, specs.Reading.{readAt, cursorAfter}, proofs.ReaderLaws.{Found, list-found, room-row, body-found, read-after}}
 use Rattle.platform_header.specs.declared.IgvmPlatformHeader.{IgvmPlatformHeader}
 use Rattle.initialization_header.{specs.declared.IgvmInitializationHeader.IgvmInitializationHeader, specs.Initializations.initializationOf}
+use Rattle.sheet_headers.{specs.Headers.sheetHeaders, proofs.ListLaws.initialization-header}
 use Rattle.rules.{specs.declared.Region.Region, specs.Regions.{regionOf, regionPasses, tablesShare, overlap, regionsClash}, specs.Initializations.{withoutCca, initializationFault, ownInitializationFault}, specs.Verdict.initializationFaults, proofs.RegionLaws.clash-any, proofs.Acceptance.initialization-says}
 use Rattle.clashes.specs.Clashes.{anyTablesShare, anyOverlap}
 use Rattle.extents.{specs.declared.Reach.Reach, specs.Extents.{apartFrom, Covers}, proofs.ExtentLaws.{near-overlap, covers-more}}
 use Rattle.initialization_check.{specs.declared.RelocRegions.RelocRegions, specs.Record.{HoldsRegions, stored}, proofs.RecordLaws.{Room, Lent, lent-stored, holds-none, rows-none, holds-stored, rows-stored, holds-clashes}}
-use Rattle.sheet_reader.{specs.declared.SheetRow.SheetRow, specs.Reading.{readAt, cursorAfter}, proofs.ReaderLaws.{Found, list-found, room-row, body-found, read-after}}
-use Rattle.sheet_headers.{specs.Headers.sheetHeaders, proofs.ListLaws.initialization-header}
-use Rattle.platform_accept.specs.Accepted.{HoldsCca}
 use Rattle.initialization_row.specs.Row.{InOrder}
+use Rattle.platform_accept.specs.Accepted.{HoldsCca}
 use Rattle.initialization_accept.specs.Accepted.{InitializationsAccepted}
 
 -- ---- the rules

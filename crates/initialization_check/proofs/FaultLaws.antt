@@ -1,11 +1,10 @@
 -- What is wrong with an initialization header, kind by kind.
--- Assumes nothing.
 use Rattle.rows.{proofs.Kit.{_≡_, refl, ap, Bool, true, false, not, cond, _&&_, Option, none, some, ℕ, _+_, _≤_, eqb, ltb-false}, specs.Rows.{Rows, any}}
 use Rattle.igvm_defs.{specs.declared.Arch.Arch, specs.declared.Fault.Fault, specs.Refusals.{fault, noFault, refuse, isFault, orFault}}
-use Rattle.platform_header.specs.declared.IgvmPlatformHeader.{IgvmPlatformHeader}
-use Rattle.initialization_header.{specs.declared.IgvmInitializationHeader.IgvmInitializationHeader, specs.Fields.kindNumber}
 use Rattle.masks.{specs.Masks.{individualMasks, firstMask}, proofs.MaskLaws.first-mask-same}
 use Rattle.addresses.specs.Addresses.{endsBeyond}
+use Rattle.platform_header.specs.declared.IgvmPlatformHeader.{IgvmPlatformHeader}
+use Rattle.initialization_header.{specs.declared.IgvmInitializationHeader.IgvmInitializationHeader, specs.Fields.kindNumber}
 use Rattle.rules.{specs.Platforms.lastIsCca, specs.declared.Region.Region, specs.Regions.{regionOf, regionPasses, tablesShare, overlap}, specs.Initializations.{validateInitialization, wrongPolicyArch, bitWithoutCca, withoutCca, refuseBit, initializationFault, ownInitializationFault}, proofs.FaultLaws.{refuse-none, or-none}, proofs.Acceptance.initialization-says, proofs.RegionLaws.region-fails}
 use Rattle.platform_check.{specs.declared.Platforms.Platforms, specs.Record.{HoldsPlatforms, lastTypeIsCca}, proofs.RecordLaws.holds-cca}
 use Rattle.initialization_check.specs.Record.{policyFault}

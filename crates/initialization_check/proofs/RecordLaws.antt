@@ -1,5 +1,4 @@
 -- The record of regions answers for the rows that it holds.
--- Assumes nothing.
 use Rattle.rows.{proofs.Kit.{_≡_, refl, sym, ap, ap₂, _∙_, Bool, true, false, cond, _||_, or-false, List, none, some, ℕ, _+_, _<_, _≤_, add-zero, arith, ltb, length, getD, set, length-set, getD-set-same, getD-set-other, ltb-true, ltb-false}, specs.Below.{anyBelow, sumBelow, countBelow}, specs.Rows.{Rows, before}, proofs.BelowLaws.{any-more, any-same-tests, count-more, count-same-tests}}
 use Rattle.initialization_header.specs.declared.IgvmInitializationHeader.{IgvmInitializationHeader}
 use Rattle.rules.{specs.declared.Region.Region, specs.Regions.{regionOf, regionPasses, tablesShare, overlap}}

@@ -1,15 +1,14 @@
 -- Laws of the pass over the initialization rows: what holds at a turn of the loop, where it stops, and what it says at the end.
--- Assumes nothing.
 use Rattle.rows.{proofs.Kit.{_≡_, sym, _∙_, Bool, true, false, List, ℕ, _+_, _≤_, _<_, arith, length-set}, specs.Rows.{Rows, before}}
 use Rattle.igvm_defs.{specs.declared.Arch.Arch, specs.declared.Fault.Fault, specs.Kinds.initializationList, specs.Refusals.{noRefusal, isFault, inRow, firstFault}}
 use Rattle.sheet.{specs.declared.Cursor.Cursor, specs.Head.{limits, headOf}, specs.Table.{rowKind, bodyOf}, specs.Read.Readable, specs.Walk.cursorAt, proofs.Readable.readable-bounds}
 use Rattle.platform_header.specs.declared.IgvmPlatformHeader.{IgvmPlatformHeader}
 use Rattle.initialization_header.{specs.declared.IgvmInitializationHeader.IgvmInitializationHeader, specs.Initializations.initializationOf}
-use Rattle.rules.{specs.Headers.Headers, specs.Verdict.{initializationFaults, initializationsRefusal}, specs.declared.Region.Region, specs.Regions.overlap}
-use Rattle.platform_check.{specs.declared.Platforms.Platforms, specs.Record.HoldsPlatforms, proofs.RecordLaws.holds-count}
-use Rattle.extents.{specs.declared.Reach.Reach, specs.Extents.{apartFrom, Covers}, proofs.ExtentLaws.covers-more}
-use Rattle.initialization_check.{specs.declared.RelocRegions.RelocRegions, specs.Record.{HoldsRegions, HoldsClashes, InitializationStepped, stored}, proofs.RecordLaws.{holds-stored, holds-clashes}}
 use Rattle.sheet_headers.{specs.Headers.sheetHeaders, proofs.HeaderLaws.sheet-counts, proofs.ListLaws.{AtList, at-initialization, initialization-header, RowsReached, rows-next, rows-stop, rows-end, stopped}}
+use Rattle.rules.{specs.Headers.Headers, specs.Verdict.{initializationFaults, initializationsRefusal}, specs.declared.Region.Region, specs.Regions.overlap}
+use Rattle.extents.{specs.declared.Reach.Reach, specs.Extents.{apartFrom, Covers}, proofs.ExtentLaws.covers-more}
+use Rattle.platform_check.{specs.declared.Platforms.Platforms, specs.Record.HoldsPlatforms, proofs.RecordLaws.holds-count}
+use Rattle.initialization_check.{specs.declared.RelocRegions.RelocRegions, specs.Record.{HoldsRegions, HoldsClashes, InitializationStepped, stored}, proofs.RecordLaws.{holds-stored, holds-clashes}}
 use Rattle.initialization_pass.specs.Passed.{InitializationsPassed, Lengths}
 
 initializations-first : (h : Headers) (first n : ℕ) → first ≡ h .platforms .count → n ≡ h .initializations .count

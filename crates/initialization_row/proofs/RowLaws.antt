@@ -1,13 +1,12 @@
 -- An initialization row whose body passes the tests of its kind has no fault but one that an earlier row may give it.
--- Assumes nothing.
 use Rattle.rows.{proofs.Kit.{_≡_, refl, sym, _∙_, Bool, true, false, not, _&&_, false≢true, List, none, ℕ, _+_, _/_, _%_, _^_, arith, bitAnd, and-shr, and-step, eqb, leb, length, eqb-true, eq-eqb, leb-true, ltb-false, not-true}, specs.Rows.Rows, proofs.Bools.and-parts}
 use Rattle.le.specs.Le.{byteAt, leAt}
 use Rattle.igvm_defs.{specs.declared.Arch.Arch, specs.declared.Arch.the-variants.{X64, AArch64}, specs.declared.Fault.Fault, specs.Kinds.{kindOf, spans, lengthOk}, specs.Refusals.isFault, specs.Revision.{isX64, isAArch64}, proofs.RefusalLaws.no-fault, proofs.VtlLaws.vtl-number}
+use Rattle.masks.{specs.Masks.{shares, matches, hasBit}, proofs.MaskLaws.has-bit}
+use Rattle.addresses.specs.Addresses.{endsBeyond}
 use Rattle.sheet.specs.Read.{codesOk}
 use Rattle.platform_header.specs.declared.IgvmPlatformHeader.{IgvmPlatformHeader}
 use Rattle.initialization_header.specs.Initializations.{ccaPolicyOf, initializationOf}
-use Rattle.masks.{specs.Masks.{shares, matches, hasBit}, proofs.MaskLaws.has-bit}
-use Rattle.addresses.specs.Addresses.{endsBeyond}
 use Rattle.rules.{specs.declared.Region.Region, specs.Regions.regionPasses, specs.Initializations.{validateRegion, validateTable, withoutCca, ownInitializationFault}, proofs.Acceptance.without-cca}
 use Rattle.platform_accept.specs.Accepted.{HoldsCca}
 use Rattle.initialization_row.specs.Row.{InOrder}

@@ -1,12 +1,11 @@
 -- The loop over the initialization rows of a readable sheet: what holds at its head, and how a row's region leads to the next turn.
--- Assumes nothing.
 use Rattle.rows.{proofs.Kit.{_≡_, sym, _∙_, Bool, cond, List, none, some, ℕ, _+_, _≤_, _<_, add-zero, add-assoc, arith, length, set}, specs.Rows.before}
 use Rattle.igvm_defs.specs.Kinds.{initializationList}
 use Rattle.sheet.{specs.declared.Cursor.Cursor, specs.Head.{limits, headOf}, specs.Table.{rowKind, bodyOf}, specs.Read.Readable, specs.Walk.cursorAt, proofs.Readable.readable-bounds}
 use Rattle.initialization_header.{specs.declared.IgvmInitializationHeader.IgvmInitializationHeader, specs.Initializations.initializationOf}
+use Rattle.sheet_headers.{specs.Headers.sheetHeaders, proofs.HeaderLaws.sheet-counts, proofs.ListLaws.{AtList, at-initialization, initialization-header}}
 use Rattle.rules.{specs.declared.Region.Region, specs.Regions.regionOf}
 use Rattle.initialization_check.{specs.declared.RelocRegions.RelocRegions, specs.Record.{HoldsRegions, HoldsRows, stored}, proofs.RecordLaws.{Room, Lent, lent-stored, holds-none, rows-none, holds-stored, rows-stored}}
-use Rattle.sheet_headers.{specs.Headers.sheetHeaders, proofs.HeaderLaws.sheet-counts, proofs.ListLaws.{AtList, at-initialization, initialization-header}}
 
 -- at the head of the loop: the cursor stands at row i of n initialization rows, which follow `first` others, and the record has the regions of the rows
 -- before it, each with its row

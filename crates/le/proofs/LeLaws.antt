@@ -1,5 +1,4 @@
 -- Laws of little-endian numbers: reads within the bytes that two lists share, and the bound of a number.
--- Assumes nothing.
 use Rattle.rows.{proofs.Kit.{_≡_, _∙_, ap, sym, true, List, ℕ, _+_, _*_, _^_, _<_, _≤_, arith, leb, ltb, take, getD-take, leb-true, ltb-true}, proofs.BelowLaws.sum-cong}
 use Rattle.le.specs.Le.{byteAt, leAt}
 

@@ -1,8 +1,7 @@
 -- Laws of lent bytes. A store past the end changes nothing, so only laws that read a byte ask for room.
--- Assumes nothing.
-use native.Mathlib.Nat.{mul-comm}
+use native.Mathlib.Nat.{mul-comm, mod-eq-of-lt}
 use lib.Arith.{mod-mul}
-use Rattle.rows.{proofs.Kit.{ℕ, zero, suc, _+_, _-_, _*_, _/_, _%_, _^_, _≤_, _<_, add-zero, zero-add, not-suc-le-zero, le-of-suc-le-suc, pow-succ', decLt, arith, _≡_, refl, sym, ap, _∙_, Bool, true, cond, _&&_, and-false, List, [], _∷_, eqb, leb, ltb, length, getD, set, eqb-true, leb-true, ltb-true, eq-eqb, ne-eqb, le-leb, lt-leb, lt-ltb, le-ltb}, specs.Below.sumBelow, proofs.Bools.{same-test, and-parts, cond-same}, proofs.BelowLaws.sum-cong}
+use Rattle.rows.{proofs.Kit.{ℕ, zero, suc, _+_, _-_, _*_, _/_, _%_, _^_, _≤_, _<_, add-zero, zero-add, not-suc-le-zero, le-of-suc-le-suc, pow-succ', decLt, arith, _≡_, refl, sym, ap, _∙_, Bool, true, cond, _&&_, and-false, List, [], _∷_, eqb, leb, ltb, length, getD, set, List·getD-eq-default, eqb-true, leb-true, ltb-true, eq-eqb, ne-eqb, le-leb, lt-leb, lt-ltb, le-ltb}, specs.Below.sumBelow, proofs.Bools.{same-test, and-parts, cond-same}, proofs.BelowLaws.sum-cong}
 use Rattle.le.specs.Le.{byteAt, leAt, byteOf}
 use Rattle.lent.specs.Lent.{eachFrom, each, bytesPut, wordPut, rowPut, rowsPut}
 
@@ -204,8 +203,22 @@ module _ (count : ℕ) (row : ℕ → List ℕ) (b : List ℕ) (room : 64 * coun
   unfolding leAt
   word-said n k l h = sum-cong 8 _ _ (λ m g. ap (λ x. 256 ^ m * x) (byte-is n k m l h g)) ∙ bytes-say 8 (getD (row n) k 0)
 
+  -- word k of row n is item k of the row
+  pub word-is : (n k : ℕ) → n < count → k < 8 → getD (row n) k 0 < 18446744073709551616 → leAt 8 (rowsPut count row b) (64 * n + 8 * k) ≡ getD (row n) k 0
+  word-is n k l h g = word-said n k l h ∙ mod-eq-of-lt g
+
 -- equal rows, under whatever numbers, are the same words
 pub same-words : (count count2 : ℕ) (row row2 : ℕ → List ℕ) (b b2 : List ℕ) → 64 * count ≤ length b → 64 * count2 ≤ length b2
     → (n n2 k : ℕ) → n < count → n2 < count2 → k < 8 → row n ≡ row2 n2 → leAt 8 (rowsPut count row b) (64 * n + 8 * k) ≡ leAt 8 (rowsPut count2 row2 b2) (64 * n2 + 8 * k)
 same-words count count2 row row2 b b2 r r2 n n2 k l l2 h e =
     word-said count row b r n k l h ∙ ap (λ (r : List ℕ). getD r k 0 % 256 ^ 8) e ∙ sym (word-said count2 row2 b2 r2 n2 k l2 h)
+
+-- bytes behind the rows keep their contents
+pub rows-keep : (count : ℕ) (row : ℕ → List ℕ) (b : List ℕ) (j : ℕ) → 64 * count ≤ j → getD (rowsPut count row b) j 0 ≡ getD b j 0
+unfolding rowsPut
+rows-keep count row b j l = go (decLt j (length b))
+  where
+    go : Dec (j < length b) → getD (rowsPut count row b) j 0 ≡ getD b j 0
+    go (yes h) = from-at 0 _ b j h ∙ rw (zero-add, le-ltb j (64 * count) l)
+    go (no h) =
+        rw (List·getD-eq-default (rowsPut count row b) 0 {n = j} (rw (rows-length count row b) (omega arith)), List·getD-eq-default b 0 {n = j} (omega arith))

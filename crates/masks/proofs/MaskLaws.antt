@@ -1,9 +1,8 @@
 -- Laws of masks.
--- Assumes nothing.
 use Prim.Native.Nat.{min, max}
-use native.{Mathlib.Nat.{two-pow-succ, add-sub-cancel, zero-mul, one-mul, div-div-eq-div-mul, div-self, eq-zero-or-pos}, Mathlib.Numerals.one-add}
+use native.{Mathlib.Nat.{two-pow-succ, add-sub-cancel, zero-mul, one-mul, div-div-eq-div-mul, zero-div, div-self, eq-zero-or-pos}, Mathlib.Numerals.one-add}
 use lib.{Arith.bin-ind, Bits.{and-comm, and-self, and-zero-r, or-step, and-le-r, or-shr, or-add-and, and-high}, Pow.{pow-pos, shl-exact}, Seq.take-add}
-use Rattle.rows.{proofs.Kit.{_≡_, refl, sym, ap, _∙_, Bool, true, false, cond, not, _&&_, _||_, false≢true, List, [], _∷_, _++_, _≢_, _↔_, inl, inr, Option, none, some, ℕ, zero, suc, _+_, _-_, _*_, _/_, _%_, _^_, _≤_, _<_, pow-succ', decLt, add-one, arith, bitAnd, bitOr, and-step, and-shr, eqb, length, take, getD, take-suc, eqb-true, eqb-false, ne-eqb, not-true}, specs.Below.{orLater, firstBelow}, proofs.Bools.{not-both, eqb-same, cond-map}, proofs.BelowLaws.first-none}
+use Rattle.rows.{proofs.Kit.{_≡_, refl, sym, ap, _∙_, Bool, true, false, cond, not, _&&_, _||_, false≢true, List, [], _∷_, _++_, _≢_, _↔_, _⊎_, inl, inr, Option, none, some, ℕ, zero, suc, _+_, _-_, _*_, _/_, _%_, _^_, _≤_, _<_, pow-succ', decLt, add-one, arith, bitAnd, bitOr, and-step, and-shr, eqb, length, take, getD, take-suc, eqb-true, eqb-false, eq-eqb, ne-eqb, not-true}, specs.Below.{orLater, firstBelow}, proofs.Bools.{not-both, eqb-same, cond-map}, proofs.BelowLaws.first-none}
 use Rattle.masks.specs.Masks.{shares, matches, isOneBit, hasBit, bitsBelow, firstMask}
 use lib.Count as Count
 
@@ -96,6 +95,30 @@ has-digit m k h = eqb-true (m / 2 ^ k % 2) 1 (sym (has-bit m k) ∙ h)
 half-bit : (m k : ℕ) → hasBit (m / 2) k ≡ hasBit m (suc k)
 half-bit m k = rw (has-bit (m / 2) k, has-bit m (suc k), pow-succ', div-div-eq-div-mul)
 
+-- masks that have bit k
+pub bit-shares : (m n k : ℕ) → hasBit m k ≡ true → hasBit n k ≡ true → shares m n ≡ true
+bit-shares m n k h g =
+    shares-says m n .1 (λ e.
+    let high : bitAnd (m / 2 ^ k) (n / 2 ^ k) ≡ 0 = sym (and-shr m n k) ∙ rw e (zero-div (2 ^ k)) in
+    omega (arith, and-step (m / 2 ^ k) (n / 2 ^ k), has-digit m k h, has-digit n k g))
+
+shares-bit : (w m n : ℕ) → m < 2 ^ w → shares m n ≡ true → (k : ℕ) × (k < w) × (hasBit m k ≡ true) × (hasBit n k ≡ true)
+shares-bit zero m n l h =
+    let e : m ≡ 0 = omega arith in
+    not-both (rw e (shares-zero-left n)) h
+shares-bit (suc w) m n l h = go (shares-bit w (m / 2) (n / 2) (omega arith)) (eq-zero-or-pos (min (m % 2) (n % 2)))
+  where
+    go : (shares (m / 2) (n / 2) ≡ true → (k : ℕ) × (k < w) × (hasBit (m / 2) k ≡ true) × (hasBit (n / 2) k ≡ true))
+        → (min (m % 2) (n % 2) ≡ 0) ⊎ (0 < min (m % 2) (n % 2)) → (k : ℕ) × (k < suc w) × (hasBit m k ≡ true) × (hasBit n k ≡ true)
+    go rest (inl z) =
+        let (k, b, f, g) = rest (shares-says (m / 2) (n / 2) .1 (λ e. shares-says m n .0 h (omega (arith, and-step m n)))) in
+        (suc k, omega arith, sym (half-bit m k) ∙ f, sym (half-bit n k) ∙ g)
+    go rest (inr p) = (0, omega arith, rw has-bit (eq-eqb (m / 1 % 2) 1 (omega arith)), rw has-bit (eq-eqb (n / 1 % 2) 1 (omega arith)))
+
+-- a mask of w bits shares a bit with another exactly where both have it
+pub shares-bits : (w m n : ℕ) → m < 2 ^ w → (shares m n ≡ true) ↔ ((k : ℕ) × (k < w) × (hasBit m k ≡ true) × (hasBit n k ≡ true))
+shares-bits w m n l = (shares-bit w m n l, λ (k, b, f, g). bit-shares m n k f g)
+
 pub bits-more : (n m : ℕ) → bitsBelow (n + 1) m ≡ bitsBelow n m ++ cond (hasBit m n) (2 ^ n ∷ []) []
 unfolding bitsBelow
 bits-more n m = rw add-one
@@ -131,11 +154,7 @@ clears-one-bit m l = eqb-same (bitAnd m (m - 1)) 0 (Count.ones m) 1 (clears m l 
 
 alone : (k m : ℕ) → Count.ones m ≡ 1 → hasBit m k ≡ true → m ≡ 2 ^ k
 unfolding hasBit
-alone zero m o h =
-    let s = Count.ones-step m in
-    let d = has-digit m 0 h in
-    let z = ones-none (m / 2) (omega arith) in
-    omega arith
+alone zero m o h = let s = Count.ones-step m in let d = has-digit m 0 h in let z = ones-none (m / 2) (omega arith) in omega arith
 alone (suc k) m o h =
     let high = half-bit m k ∙ h in
     elim (eq-zero-or-pos (Count.ones (m / 2))) [

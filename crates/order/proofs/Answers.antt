@@ -1,11 +1,10 @@
 -- What the queries answer of two accepted sheets that have as many regions of a mask, the same page table and the same region.
--- Assumes nothing.
 use Rattle.rows.{proofs.Kit.{_≡_, refl, ap, Bool, true, false, cond, List, _≢_, Option, none, some, ℕ, _+_, _*_, _/_, _<_, arith, length, lt-ltb}, proofs.Bools.cond-same}
 use Rattle.le.specs.Le.{leAt}
 use Rattle.igvm_defs.{specs.declared.Refusal.Refusal, specs.Refusals.isRefusal, proofs.RefusalLaws.orElse-later}
+use Rattle.lent.proofs.LentLaws.{same-words}
 use Rattle.sheet.specs.Head.{Limits}
 use Rattle.rules.{specs.declared.IgvmRelocatableRegion.IgvmRelocatableRegion, specs.declared.PageTableRegion.PageTableRegion, specs.Relocations.{regionAt, pageTableAt}}
-use Rattle.lent.proofs.LentLaws.{same-words}
 use Rattle.answers.{proofs.AnswerLaws.{regionsOf, list-says, found-count}, specs.Verdict.verdictRefusal, specs.Relocations.{sheetInitializations, wordsFault, relocationsRefusal, foundOf, relocationsOf, regionWords, wordsAfter, regionFault, checkRefusal, checkOf}}
 use Rattle.order.specs.Demand.{Accepted}
 

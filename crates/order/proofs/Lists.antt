@@ -1,13 +1,12 @@
 -- The headers of two sheets, one a reordering of the other, pair off within each list.
--- Assumes nothing.
 use Rattle.rows.{proofs.Kit.{_≡_, refl, _∙_, ap, sym, List, ℕ, _+_, _<_, _≤_, arith}, specs.Paired.{Paired, Free}}
 use Rattle.igvm_defs.{specs.Kinds.{platformList, initializationList, directiveList, kindOf}, proofs.KindLaws.Local}
 use Rattle.sheet.{specs.Head.{Limits, headOf, rowCount}, specs.Table.{rowKind, bodyOf, headersOf}, specs.Read.Readable, proofs.Readable.{readable-length, platform-row, initialization-row, directive-row}}
 use Rattle.platform_header.{specs.Platforms.platformOf, proofs.PlatformLaws.platform-local}
 use Rattle.initialization_header.{specs.Initializations.initializationOf, proofs.InitializationLaws.initialization-local}
 use Rattle.directive_header.{specs.Directives.directiveOf, proofs.DirectiveLaws.{directive-local, area-directive}}
-use Rattle.rules.specs.Reordered.{SameMask, SameArea}
 use Rattle.sheet_headers.specs.Headers.{sheetHeaders}
+use Rattle.rules.specs.Reordered.{SameMask, SameArea}
 use Rattle.order.specs.Reordered.{Alike, PairedRows, Reordered}
 use Rattle.order.proofs.ReadableToo.{heads, readable-too}
 use Rattle.rules.specs.Reordered as rules

@@ -1,18 +1,17 @@
 -- Demand 3 with a condition left out is false: with directives naming one area free to move, or the inserts among them alone, with platforms of one
 -- mask free to move, and with bytes left over. Each by two sheets, the first accepted and the second refused.
--- Assumes nothing.
 use lib.Count.{ones, onesIn}
 use Rattle.rows.{proofs.Kit.{_≡_, refl, true≢false, _≢_}, specs.Below.{anyBelow, firstBelow, lastBelow, sumBelow}}
 use Rattle.le.specs.Le.{leAt}
 use Rattle.igvm_defs.{specs.Refusals.{refusal, isFault, isRefusal, inRow, orElse, firstFault}, specs.Kinds.{spans, kindOf, fields, lengthOk}, specs.Platforms.{platformTypes, isPlatformType, platformTypeOf}, proofs.Runs._⨾_}
+use Rattle.masks.specs.Masks.{shares, isOneBit, hasBit, bitsBelow, firstMask}
+use Rattle.addresses.specs.Addresses.{isMultiple}
 use Rattle.sheet.{specs.Head.{limits, headOf, layoutOk, withinLimits, startFault, revisionOf, pageSizeFault}, specs.Table.{rowKind, rowLength, offsetOf, bodyOf}, specs.Read.{listAt, codesOk, rowFault, endFault, rowsRefusal, readRefusal, sheetRefusal}}
 use Rattle.platform_header.specs.Platforms.{platformOf}
 use Rattle.initialization_header.specs.Initializations.{initializationOf}
 use Rattle.directive_header.specs.Directives.{directiveOf}
-use Rattle.masks.specs.Masks.{shares, isOneBit, hasBit, bitsBelow, firstMask}
-use Rattle.addresses.specs.Addresses.{isMultiple}
-use Rattle.rules.{specs.Regions.regionPasses, specs.Platforms.{validatePlatform, sameType, ownPlatformFault, platformFault, lastIsCca}, specs.Initializations.{bitWithoutCca, initializationFault}, specs.Directives.{wrongContextArch, allocates, inserts, isAllocated, badArea, ownDirectiveFault, directiveFault}, specs.Verdict.{noPlatform, noMatchingVpContext, platformsRefusal, initializationsRefusal, directivesRefusal, headersRefusal}}
 use Rattle.sheet_headers.specs.Headers.{sheetHeaders}
+use Rattle.rules.{specs.Regions.regionPasses, specs.Platforms.{validatePlatform, sameType, ownPlatformFault, platformFault, lastIsCca}, specs.Initializations.{bitWithoutCca, initializationFault}, specs.Directives.{wrongContextArch, allocates, inserts, isAllocated, badArea, ownDirectiveFault, directiveFault}, specs.Verdict.{noPlatform, noMatchingVpContext, platformsRefusal, initializationsRefusal, directivesRefusal, headersRefusal}}
 use Rattle.answers.{proofs.AnswerLaws.accepted-readable, specs.Verdict.verdictRefusal}
 use Rattle.order.specs.{Sheets.{areaFirst, areaLast, insertLast, insertFirst, ccaLast, ccaFirst, plain, longer}, Weakened.{Statement, Whole, AnyEnd, NoneTied, OneAreaNotInserted}, Reordered.{OneMask, OneArea, Reordered}, Demand.Accepted}
 use Rattle.order.proofs.{Pairings.{alike, unmoved, exchanged}, Theorem.demand-3}

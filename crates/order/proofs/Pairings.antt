@@ -1,5 +1,4 @@
 -- Two pairings of rows, for the examples.
--- Assumes nothing.
 use Rattle.rows.proofs.Kit.{_≡_, refl, List, ℕ, zero, suc, _+_, _<_, arith, take}
 use Rattle.igvm_defs.{specs.Kinds.fields, proofs.Runs.{All, each}}
 use Rattle.sheet.specs.Table.{rowKind, rowLength, bodyOf}

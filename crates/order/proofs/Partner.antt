@@ -1,5 +1,4 @@
 -- Each row of b has a partner in a, of the same list; and the bodies of both take as many bytes.
--- Assumes nothing.
 use Rattle.rows.{proofs.Kit.{_≡_, _∙_, ap, sym, subst, List, ℕ, _+_, _-_, _<_, _≤_, zero-add, le-antisymm, le-of-eq, decLt, arith}, specs.Below.sumBelow, proofs.BelowLaws.{sum-le, sum-split}}
 use Rattle.sheet.{specs.Head.{headOf, rowCount}, specs.Table.rowLength, specs.Read.listAt, proofs.Readable.{platform-list, initialization-list, directive-list}}
 use Rattle.order.specs.Reordered.{Alike, PairedRows, Reordered}

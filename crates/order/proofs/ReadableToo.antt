@@ -1,5 +1,4 @@
 -- A sheet reordered is readable where the first is.
--- Assumes nothing.
 use Rattle.rows.{proofs.Kit.{_≡_, List, ℕ, _+_, _<_, _≤_, arith, length}, specs.Below.sumBelow, proofs.BelowLaws.sum-part}
 use Rattle.sheet.{specs.Head.{Limits, headOf, rowCount, bodiesAt}, specs.Table.{rowKind, rowLength, offsetOf, bodyOf}, specs.Read.Readable, proofs.Readable.{Started, RowOk, readable-says, readable-reads, readable-row, readable-end}}
 use Rattle.order.specs.Reordered.{Reordered}

@@ -1,5 +1,4 @@
 -- What two byte strings with the same first bytes have in common: the head of a sheet, and whether a body's codes are in range.
--- Assumes nothing.
 use Rattle.rows.{proofs.Kit.{_≡_, refl, true, List, ℕ, eqb, take, eqb-true}, proofs.Bools.cond-same}
 use Rattle.le.proofs.LeLaws.{le-read, byte-read}
 use Rattle.igvm_defs.specs.Kinds.{fields, kindOf, spans}

@@ -1,9 +1,8 @@
 -- Demand 3: the theorem.
--- Assumes nothing.
 use Rattle.rows.proofs.Kit.{_≡_, sym, List, ℕ, _<_}
 use Rattle.sheet.{specs.Head.{Limits, headOf}, specs.Read.{Readable, sheetRefusal}, proofs.Readable.sheet-says}
-use Rattle.rules.{specs.Accepted.NotRefused, specs.Relocations.regionAt, proofs.FaultLaws.else-none, proofs.Order.same-answers, proofs.QueryLaws.number-below, proofs.SoundLaws.accepted-sound}
 use Rattle.sheet_headers.specs.Headers.{sheetHeaders}
+use Rattle.rules.{specs.Accepted.NotRefused, specs.Relocations.regionAt, proofs.FaultLaws.else-none, proofs.Order.same-answers, proofs.QueryLaws.number-below, proofs.SoundLaws.accepted-sound}
 use Rattle.answers.{proofs.AnswerLaws.regionsOf, specs.Verdict.verdictRefusal, specs.Relocations.sheetInitializations}
 use Rattle.order.specs.{Reordered.Reordered, Demand.{Accepted, IsRegion, numberIn, SameAnswers}}
 use Rattle.order.proofs.{ReadableToo.{heads, readable-too}, Lists.{paired-in, headers-reordered}, Answers.{list-same, words-same, check-same}}

@@ -1,14 +1,13 @@
 -- Laws of the rows that are passed: a body that passes has no fault by itself, and what is kept of the rows before tells of the rest.
--- Assumes nothing.
 use mathlib.Core.Bool.{Bool·beq}
 use Rattle.rows.{proofs.Kit.{_≡_, refl, sym, ap, _∙_, Bool, true, false, cond, not, _&&_, _||_, List, _⊎_, inl, inr, Option, none, some, ℕ, _+_, _^_, _≤_, _<_, zero-add, add-one, arith, bitOr, eqb, leb, ltb, length, take, drop, eqb-true, eqb-false, leb-true, ltb-true, lt-ltb, not-false}, specs.Below.{anyBelow, lastBelow}, specs.Rows.{Rows, any, before, rowAt}, proofs.Bools.{not-both, is-false, or-left, or-right, or-cases, or-false-parts, and-parts}, proofs.BelowLaws.{top, none-any, any-more, last-more}}
 use Rattle.igvm_defs.{specs.declared.Arch.Arch, specs.declared.Arch.the-variants.{X64, AArch64}, specs.Kinds.{kindOf, spans, lengthOk}, specs.Refusals.isFault, specs.Revision.isX64, specs.Platforms.{platformType, platformTypes, isPlatformType, platformTypeOf}, proofs.Runs.{_⨾_, each}, proofs.RefusalLaws.no-fault}
-use Rattle.sheet.{specs.declared.Cursor.Cursor, specs.Head.headOf, specs.Table.{rowKind, rowLength, offsetOf, bodyOf}, specs.Read.codesOk, specs.Walk.ReadTo, proofs.Readable.{RowOk, platform-list}}
-use Rattle.platform_header.{specs.declared.IgvmPlatformHeader.IgvmPlatformHeader, specs.Platforms.{supportedPlatformOf, platformOf}}
 use Rattle.masks.{specs.Masks.{shares, isOneBit, hasBit}, proofs.MaskLaws.{shares-or, one-bit-alone, bit-set}}
-use Rattle.rules.{specs.Options.passes, specs.Platforms.{validatePlatform, standsWith, sameType, isCca, lastIsCca, ownPlatformFault}, specs.Verdict.platformFaults, proofs.FaultLaws.{refuse-none, or-none}, proofs.Acceptance.platform-says}
+use Rattle.sheet.{specs.declared.Cursor.Cursor, specs.Head.headOf, specs.Table.{rowKind, rowLength, offsetOf, bodyOf}, specs.Read.codesOk, specs.Walk.ReadTo, proofs.Readable.{RowOk, platform-list}}
 use Rattle.sheet_reader.{specs.declared.SheetRow.SheetRow, specs.Reading.{readAt, cursorAfter}, proofs.ReaderLaws.{kind-found, room-row, body-found, read-after}}
+use Rattle.platform_header.{specs.declared.IgvmPlatformHeader.IgvmPlatformHeader, specs.Platforms.{supportedPlatformOf, platformOf}}
 use Rattle.sheet_headers.{specs.Headers.sheetHeaders, proofs.ListLaws.platform-header}
+use Rattle.rules.{specs.Options.passes, specs.Platforms.{validatePlatform, standsWith, sameType, isCca, lastIsCca, ownPlatformFault}, specs.Verdict.platformFaults, proofs.FaultLaws.{refuse-none, or-none}, proofs.Acceptance.platform-says}
 use Rattle.platform_accept.specs.Accepted.{HoldsCca, PlatformsAccepted}
 
 -- ---- a body by itself

@@ -1,5 +1,4 @@
 -- The record of platform rows answers for the rows that it holds.
--- Assumes nothing.
 use Rattle.rows.{proofs.Kit.{_≡_, refl, sym, ap, _∙_, Bool, List, _⊎_, inl, inr, Option, none, some, ℕ, _+_, _≤_, _<_, add-one, arith, eqb, length, getD, set, getD-set-same, getD-set-other}, specs.Below.{anyBelow, lastBelow}, specs.Rows.{Rows, any, rowAt, before}, proofs.BelowLaws.{top, any-same-tests, last-same-tests, last-says}}
 use Rattle.platform_header.specs.declared.IgvmPlatformHeader.{IgvmPlatformHeader}
 use Rattle.rules.{specs.Options.passes, specs.Platforms.{sameType, isCca, lastIsCca}}

@@ -1,12 +1,11 @@
 -- Laws of the pass over the platform rows: what holds at a turn of the loop, where it stops, and what it says at the end.
--- Assumes nothing.
 use Rattle.rows.{proofs.Kit.{_≡_, refl, sym, _∙_, true, false, List, ℕ, _+_, _≤_, _<_, zero-add, arith, eqb}, specs.Rows.{Rows, before}}
 use Rattle.igvm_defs.{specs.declared.Arch.Arch, specs.declared.Fault.Fault, specs.declared.Refusal.Refusal, specs.Kinds.platformList, specs.Refusals.{fault, noFault, noRefusal, refuse, isFault, isRefusal, inRow, firstFault}, proofs.RefusalLaws.{row-refusal, orElse-first, orElse-later}}
 use Rattle.sheet.{specs.declared.Cursor.Cursor, specs.Head.{limits, headOf}, specs.Table.{rowKind, bodyOf}, specs.Read.Readable, specs.Walk.cursorAt, proofs.Readable.readable-bounds}
 use Rattle.platform_header.{specs.declared.IgvmPlatformHeader.IgvmPlatformHeader, specs.Platforms.platformOf}
-use Rattle.rules.specs.{Headers.Headers, Verdict.{platformFaults, noPlatform, platformsRefusal}}
-use Rattle.platform_check.{specs.declared.Platforms.Platforms, specs.Record.{HoldsPlatforms, PlatformStepped}}
 use Rattle.sheet_headers.{specs.Headers.sheetHeaders, proofs.HeaderLaws.sheet-counts, proofs.ListLaws.{AtList, at-platform, platform-header, RowsReached, rows-next, rows-stop, rows-end, stopped}}
+use Rattle.rules.{specs.Headers.Headers, specs.Verdict.{platformFaults, noPlatform, platformsRefusal}}
+use Rattle.platform_check.{specs.declared.Platforms.Platforms, specs.Record.{HoldsPlatforms, PlatformStepped}}
 use Rattle.platform_pass.specs.Passed.{PlatformsPassed}
 
 platforms-first : (h : Headers) (r : Refusal) → firstFault 0 (h .platforms .count) (platformFaults h) ≡ r → isRefusal r ≡ true → platformsRefusal h ≡ r

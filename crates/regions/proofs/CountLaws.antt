@@ -1,8 +1,7 @@
 -- The regions of a mask in the arrays of an accepted file: as many as its initialization rows have.
--- Assumes nothing.
 use Rattle.rows.{proofs.Kit.{_≡_, refl, _∙_, Bool, false, not, _&&_, and-true, and-false, List, ℕ, getD}, specs.Below.countBelow, specs.Rows.Rows, proofs.BelowLaws.count-same-tests}
-use Rattle.initialization_header.{specs.declared.IgvmInitializationHeader.IgvmInitializationHeader, specs.declared.IgvmInitializationHeader.the-variants.{GuestPolicy, CcaPolicy, RelocatableRegion, PageTableRelocationRegion}}
 use Rattle.masks.specs.Masks.{matches}
+use Rattle.initialization_header.{specs.declared.IgvmInitializationHeader.IgvmInitializationHeader, specs.declared.IgvmInitializationHeader.the-variants.{GuestPolicy, CcaPolicy, RelocatableRegion, PageTableRelocationRegion}}
 use Rattle.rules.{specs.declared.Region.Region, specs.Regions.regionPasses, specs.Relocations.{isRelocatable, regionCount}}
 use Rattle.initialization_check.specs.Record.{HoldsRows, regionsIn}
 

@@ -1,5 +1,4 @@
 -- What one row more adds to a count of rows that pass, and to the row found by its number.
--- Assumes nothing.
 use Rattle.rows.{proofs.Kit.{_≡_, refl, _∙_, Bool, true, false, not, cond, _&&_, Option, none, some, ℕ, zero, suc, _+_, _≤_, add-zero, add-one, arith, ne-eqb, eqb}, specs.Below.{sumBelow, nthBelow}, specs.Rows.{Rows, rowAt, before, countOf, nth}, proofs.BelowLaws.{count-more, count-le, nth-more}}
 use Rattle.initialization_header.{specs.declared.IgvmInitializationHeader.IgvmInitializationHeader, specs.declared.IgvmInitializationHeader.the-variants.{GuestPolicy, CcaPolicy, RelocatableRegion, PageTableRelocationRegion}}
 use Rattle.rules.{specs.Relocations.{isRelocatable, isPageTable, relocatableOf, pageTableOf, regionCount, regionAt, pageTableAt}, specs.Options.then}

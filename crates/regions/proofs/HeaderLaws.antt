@@ -1,5 +1,4 @@
 -- A header of another kind is no region.
--- Assumes nothing.
 use Rattle.rows.proofs.Kit.{_≡_, refl, sym, false, false≢true, none, ℕ, eqb}
 use Rattle.initialization_header.{specs.declared.IgvmInitializationHeader.IgvmInitializationHeader, specs.declared.IgvmInitializationHeader.the-variants.{GuestPolicy, CcaPolicy, RelocatableRegion, PageTableRelocationRegion}, specs.Fields.kindNumber}
 use Rattle.rules.specs.Relocations.{isRelocatable, isPageTable, relocatableOf, pageTableOf}

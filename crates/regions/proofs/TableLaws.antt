@@ -1,5 +1,4 @@
 -- The row of a mask's page table, one row at a time.
--- Assumes nothing.
 use Rattle.rows.{proofs.Kit.{_≡_, refl, _∙_, Bool, true, false, not, cond, _&&_, List, none, ℕ, _+_, _≤_, _<_, arith, eq-eqb, ne-eqb, eqb}, specs.Below.nthBelow, specs.Rows.before}
 use Rattle.sheet.{specs.Head.headOf, specs.Table.{rowKind, bodyOf}}
 use Rattle.initialization_header.specs.Initializations.{initializationOf}

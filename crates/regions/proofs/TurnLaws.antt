@@ -1,5 +1,4 @@
 -- A loop over the initialization rows of a readable sheet: what a turn of it knows, and where it ends.
--- Assumes nothing.
 use Rattle.rows.{proofs.Kit.{_≡_, true, List, ℕ, _+_, _<_, _≤_, add-assoc, arith, length}, specs.Rows.before}
 use Rattle.igvm_defs.specs.Kinds.{initializationList, kindOf}
 use Rattle.sheet.{specs.declared.Cursor.Cursor, specs.declared.SheetHead.SheetHead, specs.Head.{limits, headOf}, specs.Table.{rowKind, bodyOf}, specs.Read.{codesOk, Readable}, specs.Walk.cursorAt, proofs.Readable.{readable-bounds, readable-row, body-least}}

@@ -1,10 +1,9 @@
 -- A walk over the initialization rows: where it starts, what a turn keeps, and where it ends.
--- Assumes nothing.
 use Rattle.rows.{proofs.Kit.{_≡_, refl, sym, ap, _∙_, true, cond, _&&_, List, ℕ, _+_, _*_, _≤_, _<_, add-zero, arith, eqb, length}, specs.Rows.before, specs.Below.sumBelow}
+use Rattle.lent.{specs.Lent.{rowPut, rowsPut}, proofs.LentLaws.{rows-none, rows-length}}
 use Rattle.sheet.{specs.declared.Cursor.Cursor, specs.declared.SheetHead.SheetHead, specs.Head.{limits, headOf}, specs.Table.{rowKind, bodyOf}, specs.Read.Readable, specs.Walk.cursorAt}
 use Rattle.initialization_header.specs.Initializations.{initializationOf}
 use Rattle.rules.specs.Relocations.{isRelocatable, isPageTable, relocatableOf, regionCount}
-use Rattle.lent.{specs.Lent.{rowPut, rowsPut}, proofs.LentLaws.{rows-none, rows-length}}
 use Rattle.answers.specs.Relocations.{sheetInitializations, regionWords}
 use Rattle.regions.proofs.{FoundLaws.{regions-more, regions-few}, TurnLaws.{Turn, turn-at, all-rows}, WordLaws.{wordsAt, number-room, words-more}, TableLaws.{TableRow, table-none, table-next}}
 

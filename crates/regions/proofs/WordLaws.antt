@@ -1,11 +1,10 @@
 -- The words of a mask's regions, one row at a time.
--- Assumes nothing.
 use Rattle.rows.{proofs.Kit.{_≡_, refl, sym, _∙_, Bool, true, false, cond, false≢true, List, [], _∷_, ℕ, _+_, _/_, _%_, _≤_, _<_, add-zero, arith, eqb}, specs.Rows.{Rows, before}}
 use Rattle.le.specs.Le.{byteAt, leAt}
 use Rattle.igvm_defs.{specs.Kinds.{kindOf, initializationList}, proofs.Runs.{each, _⨾_}, proofs.VtlLaws.vtl-number}
+use Rattle.lent.{specs.Lent.{rowPut, rowsPut}, proofs.LentLaws.rows-more}
 use Rattle.initialization_header.{specs.declared.IgvmInitializationHeader.IgvmInitializationHeader, specs.declared.IgvmInitializationHeader.the-variants.{GuestPolicy, CcaPolicy, RelocatableRegion, PageTableRelocationRegion}, specs.Fields.kindNumber, specs.Initializations.{initializationOf, relocatableRegionOf}, proofs.InitializationLaws.kind-initialization}
 use Rattle.rules.{specs.Relocations.{isRelocatable, relocatableOf, regionCount, regionAt}, proofs.QueryLaws.{number-below, region-found}}
-use Rattle.lent.{specs.Lent.{rowPut, rowsPut}, proofs.LentLaws.rows-more}
 use Rattle.answers.specs.Relocations.{regionWords}
 use Rattle.regions.proofs.FoundLaws.{regions-more}
 

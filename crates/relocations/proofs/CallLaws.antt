@@ -1,13 +1,12 @@
 -- What the calls answer where one of their refusals applies, and where none does.
--- Assumes nothing.
 use Rattle.rows.{proofs.Kit.{inl, inr, _≡_, refl, ap, sym, _∙_, Bool, true, false, _&&_, List, Option, none, some, ℕ, zero, suc, _*_, _/_, _≤_, _<_, arith, ltb, length}, proofs.Bools.{which, or-false-parts, ltb-same}}
 use Rattle.igvm_defs.{specs.declared.Refusal.Refusal, specs.Refusals.{noRefusal, isRefusal, inRow, orElse}, proofs.RefusalLaws.{orElse-first, orElse-later, else-refusal, row-refusal, no-fault-row}}
-use Rattle.sheet.{specs.Head.{Limits, limits}, specs.Read.Readable, proofs.Readable.readable-bounds}
-use Rattle.rules.{specs.Relocations.{regionAt, pageTableAt}, specs.declared.IgvmRelocatableRegion.IgvmRelocatableRegion, specs.declared.PageTableRegion.PageTableRegion}
-use Rattle.initialization_check.specs.declared.RelocRegions.{RelocRegions}
-use Rattle.sheet_headers.specs.Headers.{sheetHeaders}
 use Rattle.lent.{specs.Lent.rowsPut, proofs.LentLaws.rows-none}
+use Rattle.sheet.{specs.Head.{Limits, limits}, specs.Read.Readable, proofs.Readable.readable-bounds}
+use Rattle.sheet_headers.specs.Headers.{sheetHeaders}
+use Rattle.rules.{specs.Relocations.{regionAt, pageTableAt}, specs.declared.IgvmRelocatableRegion.IgvmRelocatableRegion, specs.declared.PageTableRegion.PageTableRegion}
 use Rattle.answers.{proofs.AnswerLaws.{regionsOf, accepted-readable, list-says, found-count}, specs.declared.Checked.Checked, specs.Verdict.verdictRefusal, specs.Relocations.{sheetInitializations, maskFault, wordsFault, relocationsRefusal, foundOf, relocationsOf, regionWords, wordsAfter, regionFault, checkRefusal, testRegion, checkOf}}
+use Rattle.initialization_check.specs.declared.RelocRegions.{RelocRegions}
 use Rattle.keep.specs.Kept.{Kept}
 use Rattle.regions.{specs.declared.FoundRegion.FoundRegion, specs.declared.FoundTable.FoundTable, specs.Found.{foundRegion, foundTable}}
 use Rattle.relocations.specs.Query.{queryRefusal}

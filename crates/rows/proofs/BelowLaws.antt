@@ -1,7 +1,7 @@
 -- Laws of the definitions over the indexes below n. A law `..-more` is for a loop that goes from n to n + 1.
 use native.Mathlib.Nat.{mul-suc}
 use Rattle.rows.specs.Below.{anyBelow, orLater, firstBelow, lastBelow, sumBelow, countBelow, nthBelow}
-use Rattle.rows.proofs.{Kit.{_≡_, refl, ap₂, _∙_, Bool, true, false, cond, _&&_, _||_, false≢true, and-false, _≢_, _↔_, _⊎_, inl, inr, Option, none, some, ℕ, zero, suc, _+_, _*_, _≤_, _<_, zero-le, not-suc-le-zero, eq-or-lt-of-le, le-of-suc-le-suc, add-suc, add-zero, arith, add-one, eqb, eq-eqb, eqb-true, ne-eqb}, Bools.{which, not-both, is-false, or-left, or-right, or-cases, and-parts, cond-map}}
+use Rattle.rows.proofs.{Kit.{_≡_, refl, ap₂, _∙_, Bool, true, false, cond, _&&_, _||_, false≢true, and-false, _≢_, _↔_, _⊎_, inl, inr, Option, none, some, ℕ, zero, suc, _+_, _*_, _≤_, _<_, zero-le, not-suc-le-zero, eq-or-lt-of-le, le-of-suc-le-suc, add-suc, add-zero, arith, add-one, eqb, eq-eqb, eqb-true, ne-eqb, getD, replicate}, Bools.{which, not-both, is-false, or-left, or-right, or-cases, and-parts, cond-map}}
 
 -- below suc n: n itself, or below n
 pub top : {i n : ℕ} → i < suc n → (i ≡ n) ⊎ (i < n)
@@ -144,10 +144,7 @@ sum-split n (suc m) f = let e = sum-split n m f in rw add-suc (omega arith)
 pub sum-bound : (n : ℕ) (f : ℕ → ℕ) (b : ℕ) → ((i : ℕ) → i < n → f i ≤ b) → sumBelow n f ≤ b * n
 unfolding sumBelow
 sum-bound zero f b h = zero-le
-sum-bound (suc n) f b h =
-    let e = sum-bound n f b (λ i l. h i (omega arith)) in
-    let t = h n (omega arith) in
-    rw mul-suc (omega arith)
+sum-bound (suc n) f b h = let e = sum-bound n f b (λ i l. h i (omega arith)) in let t = h n (omega arith) in rw mul-suc (omega arith)
 
 -- a number taken out of the sum
 sum-out : (m k : ℕ) (g : ℕ → ℕ) → k < m → sumBelow m g ≡ g k + sumBelow m (λ j. cond (eqb j k) 0 (g j))
@@ -179,10 +176,7 @@ count-more n p = sum-more n (λ i. cond (p i) 1 0)
 
 -- an index that passes has a number of its own
 pub count-lt : (i n : ℕ) (p : ℕ → Bool) → i < n → p i ≡ true → countBelow i p < countBelow n p
-count-lt i n p l h =
-    let e : cond {A = ℕ} (p i) 1 0 ≡ 1 = rw h in
-    let m = sum-part n (λ j. cond (p j) 1 0) i l in
-    omega arith
+count-lt i n p l h = let e : cond {A = ℕ} (p i) 1 0 ≡ 1 = rw h in let m = sum-part n (λ j. cond (p j) 1 0) i l in omega arith
 
 pub count-none : (n : ℕ) (p : ℕ → Bool) → ((i : ℕ) → i < n → p i ≡ false) → countBelow n p ≡ 0
 unfolding sumBelow
@@ -229,3 +223,10 @@ pub nth-more : {A : Type 0} (f : Option ℕ → A) (n : ℕ) (p : ℕ → Bool) 
     → f (nthBelow (n + 1) p k) ≡ cond (p n && eqb (countBelow n p) k) (f (some n)) (f (nthBelow n p k))
 unfolding nthBelow
 nth-more f n p k = rw add-one (cond-map f (p n && eqb (countBelow n p) k) (some n) (nthBelow n p k))
+
+-- ---- a list of zeroes
+
+pub zeros : (n i : ℕ) → getD {A = ℕ} (replicate n 0) i 0 ≡ 0
+zeros zero i = refl
+zeros (suc n) zero = refl
+zeros (suc n) (suc i) = zeros n i

@@ -1,6 +1,7 @@
 -- Facts of tests. `mathlib.Core.Bool` has more: `or-true`, `or-false`, `and-true`, `and-false`, `and-eq-true-iff`.
 use mathlib.Core.Bool.{and-eq-true-iff}
-use Rattle.rows.proofs.Kit.{_≡_, refl, sym, _∙_, Bool, true, false, cond, _&&_, _||_, false≢true, _⊎_, inl, inr, ℕ, _≤_, _<_, ltb, leb, eqb, lt-ltb, ltb-true, le-leb, leb-true, eq-eqb, eqb-true}
+use mir.Val.{boolByte}
+use Rattle.rows.proofs.Kit.{_≡_, refl, sym, _∙_, Bool, true, false, cond, _&&_, _||_, false≢true, _⊎_, inl, inr, ℕ, _≤_, _<_, ltb, leb, eqb, arith, lt-ltb, ltb-true, le-leb, leb-true, eq-eqb, eqb-true}
 
 -- ---- true and false
 
@@ -72,3 +73,8 @@ cond-same false x y u v f g = g refl
 pub cond-map : {A B : Type 0} (f : A → B) (t : Bool) (x y : A) → f (cond t x y) ≡ cond t (f x) (f y)
 cond-map f true x y = refl
 cond-map f false x y = refl
+
+-- a test as a number
+pub one-at-most : (b : Bool) → boolByte b ≤ 1
+one-at-most true = omega arith
+one-at-most false = omega arith

@@ -1,12 +1,11 @@
 -- The headers of a file are accepted exactly when `Accepted` holds of its rows.
--- Assumes nothing.
 use Rattle.rows.{proofs.Kit.{_≡_, refl, sym, _∙_, Bool, true, false, not, cond, _&&_, _↔_, none, some, ℕ, _+_, _^_, _<_, arith, eqb, eqb-true, eqb-false, eq-eqb, ne-eqb, not-false}, specs.Rows.{Rows, any, before}, proofs.Bools.and-parts, proofs.BelowLaws.none-any, proofs.PairedLaws.{earlier-apart, apart-earlier}}
 use Rattle.igvm_defs.{specs.declared.Arch.Arch, specs.Refusals.{noFault, isFault, isRefusal, inRow, firstFault}, proofs.RefusalLaws.{no-fault, row-refusal}}
+use Rattle.masks.{specs.Masks.hasBit, proofs.MaskLaws.first-mask-none}
+use Rattle.addresses.specs.Addresses.{endsBeyond}
 use Rattle.platform_header.specs.declared.IgvmPlatformHeader.{IgvmPlatformHeader}
 use Rattle.initialization_header.{specs.declared.IgvmInitializationHeader.IgvmInitializationHeader, specs.Fields.initializationFields}
 use Rattle.directive_header.{specs.declared.IgvmDirectiveHeader.IgvmDirectiveHeader, specs.Fields.directiveFields}
-use Rattle.masks.{specs.Masks.hasBit, proofs.MaskLaws.first-mask-none}
-use Rattle.addresses.specs.Addresses.{endsBeyond}
 use Rattle.rules.specs.{declared.Region.Region, Regions.{regionOf, regionPasses, tablesShare, overlap, tableHolds, regionsClash}, Platforms.{sameType, platformFault, lastIsCca, ownPlatformFault}, Initializations.{validateInitialization, wrongPolicyArch, bitWithoutCca, withoutCca, initializationFault, ownInitializationFault}, Directives.{allocates, badArea, insideTable, directiveFault, isContext, noContext, ownDirectiveFault}, Headers.Headers, Verdict.{platformFaults, initializationFaults, directiveFaults, noPlatform, noMatchingVpContext, platformsRefusal, initializationsRefusal, directivesRefusal, headersRefusal}, Accepted.{NotRefused, Accepted}}
 use Rattle.rules.proofs.{RegionLaws.{overlap-sym, tables-share-sym, region-fails, regions-clash-sym, clash-any}, FaultLaws.{refuse-none, or-none, bit-none, else-none, rows-none}, AreaLaws.{earlier-once, once-earlier, allocates-names, bad-area}}
 

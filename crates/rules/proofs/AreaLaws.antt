@@ -1,5 +1,4 @@
 -- Laws of parameter areas: which header allocates, inserts or names an area, and when 32 finds nothing.
--- Assumes nothing.
 use Rattle.rows.{proofs.Kit.{_≡_, refl, sym, ap, Bool, true, false, cond, not, false≢true, and-true, _↔_, Option, none, some, ℕ, _<_, decLt, arith, eqb, eqb-true, eq-eqb, not-false}, specs.Rows.{Rows, any, before, Once}, proofs.Bools.{not-both, is-false, and-parts}, proofs.BelowLaws.{any-below, some-below}}
 use Rattle.directive_header.{specs.declared.IgvmDirectiveHeader.IgvmDirectiveHeader, specs.Fields.{kindNumber, areaOf}}
 use Rattle.rules.specs.{Options.passes, Directives.{allocates, inserts, isAllocated, badArea}}

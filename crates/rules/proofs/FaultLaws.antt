@@ -1,5 +1,4 @@
 -- When a chain of tests finds no fault, and a list of rows no refusal.
--- Assumes nothing.
 use Rattle.rows.{proofs.Kit.{_≡_, refl, sym, _∙_, Bool, true, false, cond, _||_, false≢true, _↔_, Option, none, some, ℕ, suc, _<_}, proofs.Bools.or-false-parts, proofs.BelowLaws.none-any}
 use Rattle.igvm_defs.{specs.declared.Fault.Fault, specs.declared.Refusal.Refusal, specs.Refusals.{fault, refuse, orFault, isFault, isRefusal, orElse, firstFault}, proofs.RefusalLaws.{refuse-fault, else-refusal, faults-any}}
 use Rattle.rules.specs.Initializations.{refuseBit}

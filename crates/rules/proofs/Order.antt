@@ -1,5 +1,4 @@
 -- Files whose rows pair off answer alike.
--- Assumes nothing.
 use Rattle.rows.{proofs.Kit.{_≡_, sym, false, _↔_}, specs.Paired.Free, proofs.PairedLaws.{forth, flip}}
 use Rattle.igvm_defs.specs.Refusals.{isRefusal}
 use Rattle.initialization_header.specs.declared.IgvmInitializationHeader.{IgvmInitializationHeader}

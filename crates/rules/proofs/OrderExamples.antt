@@ -1,13 +1,12 @@
 -- Two rows exchanged, as a pairing; and that neither order condition of `Reordered` can be left out.
--- Assumes nothing.
 use lib.Count.{ones}
 use Rattle.rows.{proofs.Kit.{_≡_, refl, true, false, List, [], _∷_, _↔_, ℕ, zero, suc, _<_, arith, length, getD}, specs.Below.{anyBelow, firstBelow, lastBelow}, specs.Rows.Rows, specs.Paired.{Paired, Free}, proofs.Bools.not-both, proofs.PairedLaws.unmoved}
 use Rattle.igvm_defs.{specs.declared.Arch.Arch, specs.declared.Arch.the-variants.{X64, AArch64}, specs.Refusals.{isFault, isRefusal, inRow, orElse, firstFault}, specs.Platforms.{platformTypes, isPlatformType, platformTypeOf}}
+use Rattle.masks.specs.Masks.{shares, isOneBit, hasBit, bitsBelow, firstMask}
+use Rattle.addresses.specs.Addresses.{isMultiple}
 use Rattle.platform_header.specs.declared.IgvmPlatformHeader.{IgvmPlatformHeader}
 use Rattle.initialization_header.{specs.declared.IgvmInitializationHeader.IgvmInitializationHeader, specs.declared.IgvmInitializationHeader.the-variants.{GuestPolicy, CcaPolicy}}
 use Rattle.directive_header.{specs.declared.IgvmDirectiveHeader.IgvmDirectiveHeader, specs.declared.IgvmDirectiveHeader.the-variants.{ParameterArea, VpCount, VbsMeasurement}}
-use Rattle.masks.specs.Masks.{shares, isOneBit, hasBit, bitsBelow, firstMask}
-use Rattle.addresses.specs.Addresses.{isMultiple}
 use Rattle.rules.specs.{Regions.regionPasses, Platforms.{validatePlatform, ownPlatformFault, sameType, platformFault, lastIsCca}, Initializations.{bitWithoutCca, initializationFault}, Directives.{wrongContextArch, allocates, inserts, isAllocated, badArea, ownDirectiveFault, directiveFault}, Headers.Headers, Verdict.{noPlatform, noMatchingVpContext, platformsRefusal, initializationsRefusal, directivesRefusal, headersRefusal}, Accepted.NotRefused, Reordered.{SameMask, SameArea}}
 use Rattle.rules.proofs.Order.{same-accepted}
 

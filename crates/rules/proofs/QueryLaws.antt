@@ -1,8 +1,7 @@
 -- The mask's regions and its page-table region, by rows.
--- Assumes nothing.
 use Rattle.rows.{proofs.Kit.{_≡_, refl, ap, true, false≢true, _≢_, Option, some, ℕ, _<_, ℕ-discrete}, specs.Rows.{Rows, Apart, Once}, specs.Paired.{Paired, Into}, proofs.Bools.not-both, proofs.BelowLaws.{count-lt, nth-number}, proofs.PairedLaws.{nth-there, count-same, once-same}}
-use Rattle.initialization_header.{specs.declared.IgvmInitializationHeader.IgvmInitializationHeader, specs.declared.IgvmInitializationHeader.the-variants.{GuestPolicy, CcaPolicy, RelocatableRegion, PageTableRelocationRegion}}
 use Rattle.masks.{specs.Masks.matches, proofs.MaskLaws.matches-shares}
+use Rattle.initialization_header.{specs.declared.IgvmInitializationHeader.IgvmInitializationHeader, specs.declared.IgvmInitializationHeader.the-variants.{GuestPolicy, CcaPolicy, RelocatableRegion, PageTableRelocationRegion}}
 use Rattle.rules.specs.{declared.Region.Region, Regions.{regionOf, tablesShare, regionsClash}, Relocations.{isRelocatable, isPageTable, relocatableOf, pageTableOf, regionCount, regionAt, pageTableAt}, Options.then, Reordered.regionNumber}
 use Rattle.rules.proofs.RegionLaws.{tables-share-says, regions-clash}
 

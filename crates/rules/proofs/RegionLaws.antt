@@ -1,9 +1,8 @@
 -- Laws of regions and of the tests on them.
--- Assumes nothing.
 use Rattle.rows.{proofs.Kit.{_≡_, refl, sym, Bool, true, false, _&&_, false≢true, _↔_, Option, none, some, ℕ, _+_, arith, leb, ltb, lt-ltb, ltb-true, leb-true}, specs.Rows.{Rows, any}, proofs.Bools.{not-both, is-false, and-parts}, proofs.BelowLaws.none-any}
-use Rattle.initialization_header.specs.declared.IgvmInitializationHeader.{IgvmInitializationHeader}
 use Rattle.masks.{specs.Masks.shares, proofs.MaskLaws.shares-sym}
 use Rattle.addresses.specs.Addresses.{contains, meets}
+use Rattle.initialization_header.specs.declared.IgvmInitializationHeader.{IgvmInitializationHeader}
 use Rattle.rules.specs.{declared.Region.Region, Regions.{regionOf, regionPasses, tablesShare, overlap, regionsClash}, Options.passes}
 
 -- ---- ranges of addresses
@@ -84,7 +83,6 @@ pub clash-any : (clash : Region → Region → Bool) (xs : Rows IgvmInitializati
 unfolding regionPasses regionsClash
 clash-any clash xs h = go (regionOf h)
   where
-    go : (o : Option Region)
-        → passes (λ r. any (regionPasses (clash r)) xs) o ≡ any (λ g. passes (λ r. regionPasses (clash r) g) o) xs
+    go : (o : Option Region) → passes (λ r. any (regionPasses (clash r)) xs) o ≡ any (λ g. passes (λ r. regionPasses (clash r) g) o) xs
     go none = sym (none-any (xs .count) (λ i. false) .1 (λ i l. refl))
     go (some r) = refl

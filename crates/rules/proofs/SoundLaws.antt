@@ -1,5 +1,4 @@
 -- The regions of an accepted file are sound.
--- Assumes nothing.
 use Rattle.rows.{proofs.Kit.{_≡_, false}, proofs.Bools.not-both, proofs.BelowLaws.some-below}
 use Rattle.igvm_defs.specs.Refusals.{isRefusal}
 use Rattle.masks.proofs.MaskLaws.{matches-shares}

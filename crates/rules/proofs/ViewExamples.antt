@@ -1,9 +1,8 @@
 -- The rules over the view of a directive header, spelled out for the kinds that have a fault of their own.
--- Assumes nothing.
 use Rattle.rows.proofs.Kit.{_≡_, refl, Bool, not, ℕ, ltb}
 use Rattle.igvm_defs.specs.Refusals.{fault, noFault, refuse}
-use Rattle.directive_header.specs.declared.IgvmDirectiveHeader.the-variants.{PageData, ParameterArea, RequiredMemory, SnpVpContext}
 use Rattle.addresses.specs.Addresses.{onPage}
+use Rattle.directive_header.specs.declared.IgvmDirectiveHeader.the-variants.{PageData, ParameterArea, RequiredMemory, SnpVpContext}
 use Rattle.rules.specs.Directives.{validateDirective}
 
 pub page-data : (gpa mask flags type tail : ℕ) → validateDirective (PageData gpa mask flags type tail)

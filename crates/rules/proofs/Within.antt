@@ -1,6 +1,5 @@
 -- A file whose rows all stand in an accepted file is accepted, where what its rows rely on stands in it too: platforms, VBS contexts, and
 -- the areas that it names. Reordered files are an example both ways.
--- Assumes nothing.
 use Rattle.rows.{proofs.Kit.{_≡_, sym, ap, _∙_, subst, Bool, true, false, not, some, ℕ, _<_, arith, eqb, eqb-true, not-true}, specs.Rows.{Rows, any, before}, specs.Paired.{Paired, Into, Free}, proofs.Bools.and-parts, proofs.BelowLaws.{any-below, some-below}, proofs.PairedLaws.{earlier-false, keeps-back, apart-back, once-back, forth, length-same, last-same}}
 use Rattle.igvm_defs.specs.Refusals.{isFault}
 use Rattle.platform_header.specs.declared.IgvmPlatformHeader.{IgvmPlatformHeader}

@@ -1,5 +1,4 @@
 -- Laws of `rowsRefusal` and `sheetRefusal`, for the passes that compute them: how far the rows were read, and what each says at the end.
--- Assumes nothing.
 use Rattle.rows.{proofs.Kit.{_≡_, refl, sym, ap, true, false, List, ℕ, _+_, _<_, _≤_, arith, length}, specs.Below.anyBelow, proofs.BelowLaws.any-more}
 use Rattle.igvm_defs.{specs.Refusals.{noRefusal, isFault, isRefusal, inRow}, proofs.RefusalLaws.{row-refusal, orElse-first, orElse-later, fault-end}}
 use Rattle.sheet.specs.{declared.Cursor.Cursor, Head.{Limits, headOf, rowCount, bodiesAt, startFault, pageSizeFault}, Table.{rowLength, offsetOf}, Read.{rowFault, endFault, rowsRefusal, readRefusal, sheetRefusal}, Walk.{Passed, ReadTo}}

@@ -1,5 +1,4 @@
 -- What holds of a readable sheet: its head and its rows pass, and the bodies end where the sheet does. Both ways.
--- Assumes nothing.
 use Rattle.rows.{proofs.Kit.{_≡_, refl, true, false, not, _||_, List, _↔_, ℕ, zero, suc, _+_, _<_, _≤_, arith, add-one, leb, ltb, eqb, length, length-take, length-drop, leb-true, le-leb, ltb-false, le-ltb, lt-ltb, eqb-true, eq-eqb, not-false}, specs.Below.{anyBelow, sumBelow}, proofs.Bools.{or-false-parts, and-parts}, proofs.BelowLaws.{none-any, sum-more}}
 use Rattle.le.specs.Le.{byteAt}
 use Rattle.igvm_defs.{specs.Refusals.{isFault, isRefusal}, specs.Kinds.{platformList, initializationList, directiveList, kindOf, lengthOk}, specs.Revision.pageSizeOf, proofs.RefusalLaws.{no-fault, refuse-fault, row-refusal, else-refusal, faults-any}, proofs.LengthLaws.length-least}

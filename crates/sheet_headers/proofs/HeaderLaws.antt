@@ -1,5 +1,4 @@
 -- Laws of a sheet's headers.
--- Assumes nothing.
 use Rattle.rows.proofs.Kit.{ℕ, List, _≡_, refl}
 use Rattle.igvm_defs.specs.Revision.{archOf}
 use Rattle.sheet.specs.Head.{headOf, revisionOf}

@@ -1,5 +1,4 @@
 -- Row i of a list of a readable sheet, and a pass over the n rows of a list, which follow `first` others.
--- Assumes nothing.
 use Rattle.rows.{proofs.Kit.{_≡_, refl, sym, _∙_, true, false, false≢true, List, ℕ, _+_, _≤_, _<_, add-zero, add-assoc, arith}, specs.Below.anyBelow, proofs.BelowLaws.any-more}
 use Rattle.igvm_defs.{specs.declared.Fault.Fault, specs.Kinds.{kindOf, platformList, initializationList, directiveList}, specs.Refusals.{noRefusal, isFault, isRefusal, inRow, firstFault}, proofs.RefusalLaws.{row-refusal, fault-stop, fault-end}}
 use Rattle.sheet.{specs.declared.Cursor.Cursor, specs.Head.{limits, headOf, firstDirective}, specs.Table.{rowKind, bodyOf}, specs.Read.Readable, specs.Walk.{cursorAt, AtRow}, proofs.Readable.{at-row, platform-row, initialization-row, directive-row}}

@@ -1,5 +1,4 @@
 -- What is known of a row that the sheet reader reads where its body may end behind the sheet: it is there, or it has no kind.
--- Assumes nothing.
 use Rattle.rows.proofs.Kit.{_≡_, refl, ap, Bool, true, false, List, ℕ, zero, suc, _+_, _<_, _≤_, arith, leb, length, take, drop, leb-true, le-leb}
 use Rattle.igvm_defs.specs.Kinds.{kindOf, spans}
 use Rattle.sheet.{specs.declared.Cursor.Cursor, specs.Head.{headOf, rowCount}, specs.Table.{rowKind, rowLength, offsetOf, bodyOf}, specs.Walk.ReadTo, proofs.Readable.RowOk, proofs.ReadLaws.read-more}

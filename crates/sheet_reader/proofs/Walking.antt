@@ -1,7 +1,6 @@
 -- What the walks of this crate share. There are two signatures: of a reader, and of what a reader is made of (a slice, a row, and where its body starts). A contract asks something of the reader, and tells a
 -- fact of the reader and the result. So a call, what it asks and what it gives back, an exit, and the way from a walk to the contract stand here once for all of them, and so does the walk of a function that
 -- passes a reader's parts on. The struct is Copy: what it owns is had twice, one copy is kept whole for the exit.
--- Assumes nothing.
 use types.Kit.{Item, Goal, Soaks, Seq}
 use mir.Syntax.{Ty, Name, Fn, imm, tyInt, tyRef, w8, local, valueLocal, place, field, copy, rvOpd, assign, call, seq, return}
 use prog.{Model.Model, Routine.Env, Wp.Closed}

@@ -1,5 +1,4 @@
 -- Laws of the loops that read the rows: pages pass, and the first row with a fault stops the reading.
--- Assumes nothing.
 use Rattle.rows.proofs.Kit.{_≡_, true, List, ℕ, _+_, _<_, _≤_, zero-add, le-leb}
 use Rattle.igvm_defs.{specs.Kinds.{kindOf, spans, lengthOk}, specs.Refusals.{isFault, inRow}, proofs.RefusalLaws.{row-refusal, orElse-first, fault-stop}}
 use Rattle.sheet.{specs.declared.Cursor.Cursor, specs.Head.{headOf, firstDirective, rowCount}, specs.Table.{rowKind, rowLength}, specs.Read.{codesOk, rowFault, endFault, rowsRefusal}, specs.Walk.{Passed, ReadTo}, proofs.Readable.{RowOk, directive-list}}

@@ -1,10 +1,9 @@
 -- Which refusal the verdict is, list after list, and the answer that it makes.
--- Assumes nothing.
 use Rattle.rows.{proofs.Kit.{_≡_, _∙_, true, false, List, ℕ, _+_}, proofs.Bools.or-false-parts}
 use Rattle.igvm_defs.{specs.declared.Refusal.Refusal, specs.Refusals.{noRefusal, isFault, isRefusal, inRow, firstFault}, proofs.RefusalLaws.{row-refusal, else-refusal, no-fault-row, orElse-first, orElse-later}}
 use Rattle.sheet.{specs.Head.{Limits, headOf, startFault, pageSizeFault}, specs.Read.{rowsRefusal, sheetRefusal}, proofs.ReadLaws.{start-stop, sheet-stop, sheet-end}}
-use Rattle.rules.{specs.Accepted.NotRefused, proofs.Acceptance.headers-say, specs.Headers.Headers, specs.Verdict.{directiveFaults, noMatchingVpContext, platformsRefusal, initializationsRefusal, directivesRefusal, headersRefusal}}
 use Rattle.sheet_headers.specs.Headers.{sheetHeaders}
+use Rattle.rules.{specs.Accepted.NotRefused, proofs.Acceptance.headers-say, specs.Headers.Headers, specs.Verdict.{directiveFaults, noMatchingVpContext, platformsRefusal, initializationsRefusal, directivesRefusal, headersRefusal}}
 use Rattle.answers.{specs.declared.Verdict.Verdict, specs.Verdict.{verdictRefusal, verdictOf}}
 
 -- the answer to a file that is refused

@@ -1,9 +1,9 @@
 use Rattle.rows.proofs.Kit.{now, arith, false, false≢true, _≡_, needs}
 use Rattle.igvm_defs.specs.Refusals.{isRefusal}
 use Rattle.sheet.{specs.Head.{headOf, limits}, proofs.ReadLaws.read-none, proofs.Readable.{Bounds, start-says, started-bounds}}
+use Rattle.sheet_headers.{proofs.HeaderLaws.sheet-counts, specs.Headers.sheetHeaders}
 use Rattle.rules.specs.Verdict.{platformsRefusal}
 use Rattle.initialization_check.specs.Record.{regionsIn, HoldsRows}
-use Rattle.sheet_headers.{proofs.HeaderLaws.sheet-counts, specs.Headers.sheetHeaders}
 use Rattle.platform_accept.specs.Accepted.{HoldsCca}
 use Rattle.acceptance.specs.Accepted.{ListsAccepted}
 use Rattle.acceptance.proofs.{AcceptanceLaws.{table-room, platforms-none, initializations-none, none-passed}, accept.Statement.statement}

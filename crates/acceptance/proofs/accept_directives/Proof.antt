@@ -9,9 +9,6 @@ accept-requires c κs =
     let lists = p .1 .1 .0 in let n = p .1 .0 in
     ((table-room _ (p .0 .0), p .0 .1, p .0 .2), (((n .0, n .1, n .2, n .5), holds-tables _ _ (lists .holds)), (lists .read, lists .row, p .1 .1 .1)))
 
-returns : tie.Need-returns
-returns c = ((c .before .before .accept .ensures .0, refl), λ numbers rows e. absurd (false≢true e))
-
 any-lacks-requires : tie.Need-any-lacks-requires
 any-lacks-requires c κs =
     let n = c .before .before .before .before .before .before .before .before .before .before .before .before .before .pre .1 .0 in
@@ -29,4 +26,6 @@ returns-2 c =
     )
 
 pub accept-directives-spec : {M : Type 1} → statement M
-accept-directives-spec = tie.close (tie.spec accept-requires returns any-lacks-requires returns-2)
+accept-directives-spec =
+    tie.close (tie.spec accept-requires (λ c. ((c .before .before .accept .ensures .0, refl), λ numbers rows e. absurd (false≢true e)))
+    any-lacks-requires returns-2)

@@ -7,12 +7,6 @@ returns-2 c =
     let e = c .before .place-of .ensures .0 in
     sym (state-large _ _ _ _ _ (omega arith) ∙ rw (← e) (state-none _ _ _ (omega arith)))
 
-cast-k : tie.Need-cast-k
-cast-k c = let e = c .before .before .place-of .ensures .0 in omega (arith, place-link _ _ _ _ e (omega arith))
-
-element-copy-out-result-2 : tie.Need-element-copy-out-result-2
-element-copy-out-result-2 c = let e = c .before .before .before .place-of .ensures .0 in omega (arith, place-link _ _ _ _ e (omega arith))
-
 returns-3 : tie.Need-returns-3
 returns-3 c =
     let e = c .before .before .before .before .place-of .ensures .0 in
@@ -31,4 +25,7 @@ returns-5 c =
 pub state-of-spec : {M : Type 1} → statement M
 state-of-spec =
     tie.close (tie.spec (λ c. search needs) (λ c. sym (state-few _ _ _ _ _ (omega arith))) (λ c κs. search needs) returns-2
-    (λ c. search needs) (λ c. search needs) cast-k element-copy-out-result-2 returns-3 (λ c. search needs) returns-4 returns-5)
+    (λ c. search needs) (λ c. search needs)
+    (λ c. let e = c .before .before .place-of .ensures .0 in omega (arith, place-link _ _ _ _ e (omega arith)))
+    (λ c. let e = c .before .before .before .place-of .ensures .0 in omega (arith, place-link _ _ _ _ e (omega arith))) returns-3
+    (λ c. search needs) returns-4 returns-5)

@@ -27,9 +27,6 @@ next c =
     let a = c .before .before .before .before .before .before .before .before .before .before .loop .inv in
     areas-next _ _ _ _ _ _ _ _ _ _ _ a (omega (arith, st .pre .0)) _ (c .before .before .before .before .before .before .before .row-from .ensures) _ (c .before .before .before .before .before .before .body-from .ensures) (c .before .area-row .ensures .0 _ _ _ (st .pre .1 .0 .1) (a .known) (not-false _ (c .if2 .left)))
 
-loop-holds : tie.Need-loop-holds Inv-loop μ-loop
-loop-holds c = let p = c .before .before .before .before .before .pre in areas-none _ _ _ _ _ _ (p .0 .1) (p .0 .2) (p .1 .1)
-
 row-from-requires : tie.Need-row-from-requires Inv-loop μ-loop
 row-from-requires c κs = let l = c .if1 .taken in (omega (arith, c .before .before .before .before .before .before .before .before .pre .0), c .before .before .loop .inv .read .room)
 
@@ -56,5 +53,6 @@ loop-again c = areas-onward _ _ _ _ _ _ _ _ (next (c .before .before .before .be
 
 pub past-area-rows-spec : {M : Type 1} → statement M
 past-area-rows-spec =
-    tie.close (tie.spec Inv-loop μ-loop loop-holds row-from-requires (λ c κs. room c) area-row-requires returns after-requires
-    past-uses-requires loop-less loop-again (λ c. c .before .before .loop .inv))
+    tie.close (tie.spec Inv-loop μ-loop
+    (λ c. let p = c .before .before .before .before .before .pre in areas-none _ _ _ _ _ _ (p .0 .1) (p .0 .2) (p .1 .1)) row-from-requires
+    (λ c κs. room c) area-row-requires returns after-requires past-uses-requires loop-less loop-again (λ c. c .before .before .loop .inv))

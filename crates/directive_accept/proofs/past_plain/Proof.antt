@@ -40,11 +40,9 @@ past-like-requires c κs =
 loop-less : tie.Need-loop-less Inv-loop μ-loop
 loop-less c = let l = c .before .before .before .before .before .before .before .if1 .taken in let o = rw (c .before .after .ensures) at (c .past-like .ensures .low) in omega arith
 
-loop-again : tie.Need-loop-again Inv-loop μ-loop
-loop-again c = plain-onward _ _ _ _ _ (next (c .before .before)) (rw (c .before .after .ensures) at (c .past-like .ensures))
-
 pub past-plain-spec : {M : Type 1} → statement M
 past-plain-spec =
     tie.close (tie.spec Inv-loop μ-loop (λ c. let a = c .before .pre .1 in plain-none _ _ _ (a .0) (a .1)) row-from-requires
     (λ c κs. room c) (λ c κs. c .before .before .before .before .before .loop .inv .masks) returns after-requires past-like-requires
-    loop-less loop-again (λ c. c .before .before .loop .inv))
+    loop-less (λ c. plain-onward _ _ _ _ _ (next (c .before .before)) (rw (c .before .after .ensures) at (c .past-like .ensures)))
+    (λ c. c .before .before .loop .inv))

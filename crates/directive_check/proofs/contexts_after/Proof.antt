@@ -1,4 +1,3 @@
--- `contexts_after` meets its contract. Assumes nothing.
 use types.Run.{OneOf}
 use Rattle.rows.proofs.Kit.{ℕ, _≡_, sym, List, [], _∷_, tagOf, false, or-false, needs}
 use Rattle.directive_header.{specs.declared.IgvmDirectiveHeader.IgvmDirectiveHeader, proofs.IgvmDirectiveHeader.the-type, proofs.DirectiveLaws.not-kind}

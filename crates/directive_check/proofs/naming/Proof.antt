@@ -16,9 +16,7 @@ parameter-least kind t =
 
 returns : tie.Need-returns
 unfolding howNamed areaNamed
-returns c =
-    let e = eq-eqb _ _ (c .before .if1 .taken) in
-    (rw e, rw e (c .u32-at .ensures))
+returns c = let e = eq-eqb _ _ (c .before .if1 .taken) in (rw e, rw e (c .u32-at .ensures))
 
 u32-at-requires-2 : tie.Need-u32-at-requires-2
 u32-at-requires-2 c κs =

@@ -2,8 +2,8 @@ use Rattle.rows.{proofs.Kit.{_≡_, needs, ne-eqb, now}, specs.Rows.before}
 use Rattle.igvm_defs.specs.Kinds.{directiveList}
 use Rattle.sheet.proofs.Readable.{body-least}
 use Rattle.directive_header.specs.Fields.{areaOf}
-use Rattle.directive_check.{specs.Record.{howOf, areaNumber}, proofs.DirectiveRecordLaws.bad-area-says}
 use Rattle.sheet_headers.{specs.Headers.sheetHeaders, proofs.ListLaws.{AtList, at-directive}}
+use Rattle.directive_check.{specs.Record.{howOf, areaNumber}, proofs.DirectiveRecordLaws.bad-area-says}
 use Rattle.directive_pass.proofs.{DirectivePass.row-named, bad_area.Statement.statement}
 use Rattle.directive_pass.proofs.bad_area.Tie as tie
 

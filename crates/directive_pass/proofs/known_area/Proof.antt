@@ -1,8 +1,8 @@
 use Rattle.rows.{proofs.Kit.{_-_, _+_, _<_, _≤_, add-zero, add-assoc, arith, _≡_, refl, ap, needs, now}, specs.Below.anyBelow, specs.Rows.{any, before}}
 use Rattle.igvm_defs.specs.Kinds.{directiveList}
 use Rattle.sheet.{specs.Head.{headOf, firstDirective}, specs.Walk.cursorAt, proofs.Readable.body-least}
-use Rattle.rules.specs.Directives.{allocates, inserts}
 use Rattle.sheet_headers.{specs.Headers.sheetHeaders, proofs.ListLaws.{AtList, at-directive}}
+use Rattle.rules.specs.Directives.{allocates, inserts}
 use Rattle.directive_pass.proofs.{DirectivePass.{row-named, allocated-more, inserted-more}, known_area.Statement.statement}
 use Rattle.directive_pass.proofs.known_area.Tie as tie
 
@@ -21,9 +21,6 @@ within c = let n = c .before .before .before .before .before .before .pre .2 in 
 
 known : (c : tie.In-loop Inv-loop μ-loop) → AtList (now (c .before .before .before .before .before .before .args .s)) directiveList (c .before .loop .c)
 known c = at-directive _ (c .before .before .before .before .before .before .pre .0) _ (c .before .loop .i) (c .before .loop .inv .1) (within c)
-
-cursor-at-requires : tie.Need-cursor-at-requires Inv-loop μ-loop
-cursor-at-requires c κs = let st = c .before .before .before in (st .pre .0, rw (st .pre .1) (omega arith))
 
 loop-holds : tie.Need-loop-holds Inv-loop μ-loop
 unfolding anyBelow
@@ -51,5 +48,6 @@ returns c = let l = c .before .loop in let z : l .i ≡ c .before .before .befor
 
 pub known-area-spec : {M : Type 1} → statement M
 known-area-spec =
-    tie.close (tie.spec Inv-loop μ-loop (λ c. search needs) (λ c. search needs) (λ c. search needs) cursor-at-requires loop-holds
-    (λ c κs. known c .0) (λ c κs. known (c .before) .0) naming-requires (λ c. search needs) (λ c. search needs) loop-again returns)
+    tie.close (tie.spec Inv-loop μ-loop (λ c. search needs) (λ c. search needs) (λ c. search needs)
+    (λ c κs. let st = c .before .before .before in (st .pre .0, rw (st .pre .1) (omega arith))) loop-holds (λ c κs. known c .0)
+    (λ c κs. known (c .before) .0) naming-requires (λ c. search needs) (λ c. search needs) loop-again returns)

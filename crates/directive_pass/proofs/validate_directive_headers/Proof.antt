@@ -1,7 +1,7 @@
 use Rattle.rows.proofs.Kit.{_-_, _+_, _<_, arith, _≡_, sym, ap, _∙_, needs, now}
 use Rattle.sheet.{specs.declared.SheetHead.SheetHead, specs.Head.{headOf, firstDirective}, specs.Walk.cursorAt}
-use Rattle.directive_check.specs.Record.{DirectiveStepped}
 use Rattle.sheet_headers.{specs.Headers.sheetHeaders, proofs.HeaderLaws.sheet-counts}
+use Rattle.directive_check.specs.Record.{DirectiveStepped}
 use Rattle.directive_pass.proofs.{DirectivePass.{DirectivesReached, directive-known, directive-small, directive-room, holds-tables, reached-header, directive-next, directives-stop, directives-end}, validate_directive_headers.Statement.statement}
 use Rattle.directive_pass.proofs.validate_directive_headers.Tie as tie
 

@@ -2,8 +2,7 @@ use Rattle.rows.proofs.Kit.{needs}
 use Rattle.igvm.proofs.igvm_relocation_base_valid.Statement.{statement}
 use Rattle.igvm.proofs.igvm_relocation_base_valid.Tie as tie
 
-returns : tie.Need-returns
-returns c = rw (← c .before .relocation-base-valid .ensures) (c .check-number .ensures)
-
 pub igvm-relocation-base-valid-spec : {M : Type 1} → statement M
-igvm-relocation-base-valid-spec = tie.close (tie.spec (λ c κs. search needs) (λ c κs. search needs) returns)
+igvm-relocation-base-valid-spec =
+    tie.close (tie.spec (λ c κs. search needs) (λ c κs. search needs)
+    (λ c. rw (← c .before .relocation-base-valid .ensures) (c .check-number .ensures)))

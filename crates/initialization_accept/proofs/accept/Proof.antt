@@ -1,9 +1,8 @@
-use mir.Val.{boolByte}
-use Rattle.rows.{proofs.Kit.{_≡_, refl, Bool, true, false, not, _&&_, _||_, _+_, _-_, _*_, _≤_, _<_, length, arith, needs, not-false, now}, proofs.Bools.or-false-parts}
+use Rattle.rows.{proofs.Kit.{_≡_, refl, true, false, not, _&&_, _||_, _+_, _-_, _*_, _≤_, _<_, length, arith, needs, not-false, now}, proofs.Bools.{one-at-most, or-false-parts}}
 use Rattle.sheet.{specs.Head.headOf, specs.Table.{rowKind, bodyOf}}
-use Rattle.initialization_check.specs.Record.{regionsIn}
 use Rattle.sheet_reader.proofs.ReaderLaws.{Found, read-room}
 use Rattle.sheet_headers.specs.Headers.{sheetHeaders}
+use Rattle.initialization_check.specs.Record.{regionsIn}
 use Rattle.initialization_row.specs.Row.{InOrder}
 use Rattle.initialization_accept.proofs.{RowsLaws.{Reached, reached-none, row-known, row-order, row-faultless, reached-next}, accept.Statement.statement}
 use Rattle.initialization_accept.proofs.accept.Tie as tie
@@ -67,10 +66,6 @@ room c =
     let inv = c .before .before .before .before .before .before .before .before .before .before .before .before .before .before .before .loop .inv in
     let small = inv .asked .initializations in let lent = inv .lent in
     omega arith
-
-one-at-most : (b : Bool) → boolByte b ≤ 1
-one-at-most true = omega arith
-one-at-most false = omega arith
 
 any-tables-share-requires : tie.Need-any-tables-share-requires Inv-loop μ-loop
 any-tables-share-requires c κs =

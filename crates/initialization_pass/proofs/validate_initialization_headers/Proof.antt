@@ -1,8 +1,7 @@
-use mir.Val.{boolByte}
-use Rattle.rows.proofs.Kit.{_≡_, Bool, true, false, _+_, _-_, _≤_, _<_, arith, needs, now}
+use Rattle.rows.{proofs.Kit.{_≡_, true, false, _+_, _-_, _<_, arith, needs, now}, proofs.Bools.one-at-most}
 use Rattle.igvm_defs.specs.Refusals.{isFault}
-use Rattle.initialization_check.{specs.Record.InitializationStepped, proofs.RecordLaws.holds-none}
 use Rattle.sheet_headers.{specs.Headers.sheetHeaders, proofs.HeaderLaws.sheet-counts, proofs.ListLaws.rows-first}
+use Rattle.initialization_check.{specs.Record.InitializationStepped, proofs.RecordLaws.holds-none}
 use Rattle.initialization_pass.proofs.{InitializationPass.{InitializationsReached, initialization-known, initialization-small, initialization-room, initialization-stepped, initialization-next, initializations-stop, initializations-end}, validate_initialization_headers.Statement.statement}
 use Rattle.initialization_pass.proofs.validate_initialization_headers.Tie as tie
 
@@ -11,9 +10,6 @@ Inv-loop s platforms first n arch c₀ regions₀ reach₀ i₀ c regions reach 
 
 abbrev μ-loop : tie.MeasureT-loop
 μ-loop s platforms first n arch c₀ regions₀ reach₀ i₀ c regions reach i = n - i
-
-cursor-at-requires : tie.Need-cursor-at-requires Inv-loop μ-loop
-cursor-at-requires c κs = let st = c .before .before .before .before .before in (st .pre .0, rw (st .pre .1) (omega arith))
 
 loop-holds : tie.Need-loop-holds Inv-loop μ-loop
 loop-holds c =
@@ -48,10 +44,6 @@ stepped c = initialization-stepped (c .before .before .before .before .before .b
 room : (c : tie.After-r Inv-loop μ-loop) → c .before .before .before .before .before .before .before .before .before .before .before .before .loop .regions .count < 64
 room c = let t = c .before .before .before .before .before .before .before .before .before .before .before in initialization-room (t .before .loop .inv) (t .loop-test .taken) .0
 
-one-at-most : (b : Bool) → boolByte b ≤ 1
-one-at-most true = omega arith
-one-at-most false = omega arith
-
 -- the row's number is small
 small : (c : tie.In-loop Inv-loop μ-loop) → c .before .before .before .before .before .before .before .before .before .before .args .head .platforms + c .before .loop .i < 80
 small c = initialization-small (c .before .loop .inv) (c .loop-test .taken)
@@ -61,9 +53,6 @@ returns c =
     let d = c .before .before .before .before in let t = d .before .before .before .before .before .before .before in
     let e : isFault (d .check .result .fault) ≡ true = rw (← c .before .before .is-fault .ensures) (c .before .if1 .taken) in
     rw (c .in-row .ensures) (initializations-stop (t .before .loop .inv) _ _ _ (t .loop-test .taken) (stepped d) e)
-
-add-regions : tie.Need-add-regions Inv-loop μ-loop
-add-regions c = let l = room c in let m = one-at-most (c .before .before .before .before .check .result .found) in omega arith
 
 with-requires : tie.Need-with-requires Inv-loop μ-loop
 with-requires c κs = stepped (c .before .before .before .before) .ends (rw (← c .before .before .is-fault .ensures) (c .before .if1 .left))
@@ -80,12 +69,14 @@ loop-again c =
 pub validate-initialization-headers-spec : {M : Type 1} → statement M
 validate-initialization-headers-spec =
     tie.close (tie.spec Inv-loop μ-loop (λ c. search needs) (λ c. search needs) (λ c κs. search needs) (λ c κs. search needs)
-    cursor-at-requires (λ c κs. search needs) (λ c κs. search needs) loop-holds
-    (λ c κs. initialization-known (c .before .loop .inv) (c .loop-test .taken)) check-requires (λ c κs. search needs)
+    (λ c κs. let st = c .before .before .before .before .before in (st .pre .0, rw (st .pre .1) (omega arith))) (λ c κs. search needs)
+    (λ c κs. search needs) loop-holds (λ c κs. initialization-known (c .before .loop .inv) (c .loop-test .taken)) check-requires
+    (λ c κs. search needs)
     (λ c. let l = small (c .before .before .before .before .before .before .before .before .before .before) in omega arith)
     (λ c. let l = small (c .before .before .before .before .before .before .before .before .before .before) in omega arith)
     (λ c κs. search needs) returns (λ c. let l = room c in search needs) (λ c. let l = room c in search needs)
     (λ c. let l = room c in search needs) (λ c. let l = room c in search needs) (λ c. let l = room c in search needs)
     (λ c. let l = room c in search needs) (λ c. let l = room c in search needs) (λ c. let l = room c in search needs)
-    (λ c. let l = room c in search needs) (λ c. let l = room c in search needs) (λ c. search needs) add-regions with-requires add-i
-    (λ c. search needs) loop-again (λ c. initializations-end (c .before .loop .inv) (c .loop-test .left)))
+    (λ c. let l = room c in search needs) (λ c. let l = room c in search needs) (λ c. search needs)
+    (λ c. let l = room c in let m = one-at-most (c .before .before .before .before .check .result .found) in omega arith) with-requires
+    add-i (λ c. search needs) loop-again (λ c. initializations-end (c .before .loop .inv) (c .loop-test .left)))

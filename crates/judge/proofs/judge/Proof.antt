@@ -7,26 +7,12 @@ use Rattle.judge.proofs.judge.Statement.{statement}
 use Rattle.judge.proofs.judge.Tie as tie
 
 -- the arrays are as long as they were
-masks-kept : (c : tie.Else1) → length (c .before .before .before .before .before .before .before .before .before .before .before .before .before .before .before .before .before .before .accept .last .1 .1 .1 .1 .1 .0) ≡ length (now (c .before .before .before .before .before .before .before .before .before .before .before .before .before .before .before .before .before .before .before .before .before .before .before .before .before .before .before .before .before .before .before .before .before .before .before .before .before .before .before .before .before .args .masks))
-masks-kept c = search needs
-
-gpas-kept : (c : tie.Else1) → length (c .before .before .before .before .before .before .before .before .before .before .before .before .before .before .before .before .before .before .accept .last .1 .1 .1 .1 .1 .1 .0) ≡ length (now (c .before .before .before .before .before .before .before .before .before .before .before .before .before .before .before .before .before .before .before .before .before .before .before .before .before .before .before .before .before .before .before .before .before .before .before .before .before .before .before .before .before .args .gpas))
-gpas-kept c = search needs
-
-sizes-kept : (c : tie.Else1) → length (c .before .before .before .before .before .before .before .before .before .before .before .before .before .before .before .before .before .before .accept .last .1 .1 .1 .1 .1 .1 .1 .0) ≡ length (now (c .before .before .before .before .before .before .before .before .before .before .before .before .before .before .before .before .before .before .before .before .before .before .before .before .before .before .before .before .before .before .before .before .before .before .before .before .before .before .before .before .before .args .sizes))
-sizes-kept c = search needs
-
-vps-kept : (c : tie.Else1) → length (c .before .before .before .before .before .before .before .before .before .before .before .before .before .before .before .before .before .before .accept .last .1 .1 .1 .1 .1 .1 .1 .1 .0) ≡ length (now (c .before .before .before .before .before .before .before .before .before .before .before .before .before .before .before .before .before .before .before .before .before .before .before .before .before .before .before .before .before .before .before .before .before .before .before .before .before .before .before .before .before .args .vps))
-vps-kept c = search needs
-
-vtls-kept : (c : tie.Else1) → length (c .before .before .before .before .before .before .before .before .before .before .before .before .before .before .before .before .before .before .accept .last .1 .1 .1 .1 .1 .1 .1 .1 .1 .0) ≡ length (now (c .before .before .before .before .before .before .before .before .before .before .before .before .before .before .before .before .before .before .before .before .before .before .before .before .before .before .before .before .before .before .before .before .before .before .before .before .before .before .before .before .before .args .vtls))
-vtls-kept c = search needs
-
-tables-kept : (c : tie.Else1) → length (c .before .before .before .before .before .before .before .before .before .before .before .before .before .before .before .before .before .before .accept .last .1 .1 .1 .1 .1 .1 .1 .1 .1 .1 .0) ≡ length (now (c .before .before .before .before .before .before .before .before .before .before .before .before .before .before .before .before .before .before .before .before .before .before .before .before .before .before .before .before .before .before .before .before .before .before .before .before .before .before .before .before .before .args .tables))
-tables-kept c = search needs
-
-rows-kept : (c : tie.Else1) → length (c .before .before .before .before .before .before .before .before .before .before .before .before .before .before .before .before .before .before .accept .last .1 .1 .1 .1 .1 .1 .1 .1 .1 .1 .1 .0) ≡ length (now (c .before .before .before .before .before .before .before .before .before .before .before .before .before .before .before .before .before .before .before .before .before .before .before .before .before .before .before .before .before .before .before .before .before .before .before .before .before .before .before .before .before .args .rows))
-rows-kept c = search needs
+kept : (c : tie.Else1)
+    → let a = c .before .before .before .before .before .before .before .before .before .before .before .before .before .before .before .before .before .before .accept .last .1 .1 .1 .1 .1 in
+    let s = c .before .before .before .before .before .before .before .before .before .before .before .before .before .before .before .before .before .before .before .before .before .before .before .before .before .before .before .before .before .before .before .before .before .before .before .before .before .before .before .before .before .args in
+    (length (a .0) ≡ length (now (s .masks))) × (length (a .1 .0) ≡ length (now (s .gpas))) × (length (a .1 .1 .0) ≡ length (now (s .sizes))) × (length (a .1 .1 .1 .0) ≡ length (now (s .vps)))
+    × (length (a .1 .1 .1 .1 .0) ≡ length (now (s .vtls))) × (length (a .1 .1 .1 .1 .1 .0) ≡ length (now (s .tables))) × (length (a .1 .1 .1 .1 .1 .1 .0) ≡ length (now (s .rows)))
+kept c = search needs
 
 accept-requires : tie.Need-accept-requires
 accept-requires c κs =
@@ -50,45 +36,17 @@ judge-from-requires c κs =
     let n = st .1 .0 in
     ((st .0 .0, st .0 .1, c .before .before .before .before .before .before .before .before .before .before .before .before .before .before .before .before .before .before .before .before .before .before .before .before .before .before .accept .ensures .0, c .before .before .before .before .before .before .before .before .before .before .before .before .before .before .before .before .before .before .before .before .before .before .before .before .before .before .accept .ensures .2), (omega (arith, n), omega (arith, n), omega (arith, n), omega (arith, n), omega (arith, n), omega (arith, n), omega (arith, n)))
 
-same-length-8 : tie.Need-same-length-8
-same-length-8 c =
-    let a : length (c .before .before .before .before .before .before .before .before .before .before .before .before .before .before .judge-from .last .1 .1 .1 .0) ≡ length (c .before .before .before .before .before .before .before .before .before .before .before .before .before .before .before .before .before .before .before .before .before .before .before .before .before .before .before .before .before .before .before .before .before .before .before .before .before .before .before .before .before .accept .last .1 .1 .1 .1 .1 .0) = search needs in
-    a ∙ masks-kept (c .before .before .before .before .before .before .before .before .before .before .before .before .before .before .before .before .before .before .before .before .before .before .before)
-
-same-length-9 : tie.Need-same-length-9
-same-length-9 c =
-    let a : length (c .before .before .before .before .before .before .before .before .before .before .before .before .before .before .judge-from .last .1 .1 .1 .1 .0) ≡ length (c .before .before .before .before .before .before .before .before .before .before .before .before .before .before .before .before .before .before .before .before .before .before .before .before .before .before .before .before .before .before .before .before .before .before .before .before .before .before .before .before .before .accept .last .1 .1 .1 .1 .1 .1 .0) = search needs in
-    a ∙ gpas-kept (c .before .before .before .before .before .before .before .before .before .before .before .before .before .before .before .before .before .before .before .before .before .before .before)
-
-same-length-10 : tie.Need-same-length-10
-same-length-10 c =
-    let a : length (c .before .before .before .before .before .before .before .before .before .before .before .before .before .before .judge-from .last .1 .1 .1 .1 .1 .0) ≡ length (c .before .before .before .before .before .before .before .before .before .before .before .before .before .before .before .before .before .before .before .before .before .before .before .before .before .before .before .before .before .before .before .before .before .before .before .before .before .before .before .before .before .accept .last .1 .1 .1 .1 .1 .1 .1 .0) = search needs in
-    a ∙ sizes-kept (c .before .before .before .before .before .before .before .before .before .before .before .before .before .before .before .before .before .before .before .before .before .before .before)
-
-same-length-11 : tie.Need-same-length-11
-same-length-11 c =
-    let a : length (c .before .before .before .before .before .before .before .before .before .before .before .before .before .before .judge-from .last .1 .1 .1 .1 .1 .1 .0) ≡ length (c .before .before .before .before .before .before .before .before .before .before .before .before .before .before .before .before .before .before .before .before .before .before .before .before .before .before .before .before .before .before .before .before .before .before .before .before .before .before .before .before .before .accept .last .1 .1 .1 .1 .1 .1 .1 .1 .0) = search needs in
-    a ∙ vps-kept (c .before .before .before .before .before .before .before .before .before .before .before .before .before .before .before .before .before .before .before .before .before .before .before)
-
-same-length-12 : tie.Need-same-length-12
-same-length-12 c =
-    let a : length (c .before .before .before .before .before .before .before .before .before .before .before .before .before .before .judge-from .last .1 .1 .1 .1 .1 .1 .1 .0) ≡ length (c .before .before .before .before .before .before .before .before .before .before .before .before .before .before .before .before .before .before .before .before .before .before .before .before .before .before .before .before .before .before .before .before .before .before .before .before .before .before .before .before .before .accept .last .1 .1 .1 .1 .1 .1 .1 .1 .1 .0) = search needs in
-    a ∙ vtls-kept (c .before .before .before .before .before .before .before .before .before .before .before .before .before .before .before .before .before .before .before .before .before .before .before)
-
-same-length-13 : tie.Need-same-length-13
-same-length-13 c =
-    let a : length (c .before .before .before .before .before .before .before .before .before .before .before .before .before .before .judge-from .last .1 .1 .1 .1 .1 .1 .1 .1 .0) ≡ length (c .before .before .before .before .before .before .before .before .before .before .before .before .before .before .before .before .before .before .before .before .before .before .before .before .before .before .before .before .before .before .before .before .before .before .before .before .before .before .before .before .before .accept .last .1 .1 .1 .1 .1 .1 .1 .1 .1 .1 .0) = search needs in
-    a ∙ tables-kept (c .before .before .before .before .before .before .before .before .before .before .before .before .before .before .before .before .before .before .before .before .before .before .before)
-
-same-length-14 : tie.Need-same-length-14
-same-length-14 c =
-    let a : length (c .before .before .before .before .before .before .before .before .before .before .before .before .before .before .judge-from .last .1 .1 .1 .1 .1 .1 .1 .1 .1 .0) ≡ length (c .before .before .before .before .before .before .before .before .before .before .before .before .before .before .before .before .before .before .before .before .before .before .before .before .before .before .before .before .before .before .before .before .before .before .before .before .before .before .before .before .before .accept .last .1 .1 .1 .1 .1 .1 .1 .1 .1 .1 .1 .0) = search needs in
-    a ∙ rows-kept (c .before .before .before .before .before .before .before .before .before .before .before .before .before .before .before .before .before .before .before .before .before .before .before)
-
 pub judge-spec : {M : Type 1} → statement M
 judge-spec =
     tie.close (tie.spec (λ c. search needs) (λ c. search needs) (λ c κs. search needs) (λ c κs. search needs) (λ c κs. search needs)
     (λ c κs. search needs) accept-requires (λ c κs. search needs) (λ c κs. search needs) (λ c κs. search needs) (λ c. search needs)
     (λ c. search needs) (λ c. search needs) (λ c. search needs) (λ c. search needs) (λ c. search needs) (λ c. search needs) returns
-    judge-from-requires same-length-8 same-length-9 same-length-10 same-length-11 same-length-12 same-length-13 same-length-14
+    judge-from-requires
+    (λ c. let k = kept (c .before .before .before .before .before .before .before .before .before .before .before .before .before .before .before .before .before .before .before .before .before .before .before) .0 in search needs)
+    (λ c. let k = kept (c .before .before .before .before .before .before .before .before .before .before .before .before .before .before .before .before .before .before .before .before .before .before .before) .1 in search needs)
+    (λ c. let k = kept (c .before .before .before .before .before .before .before .before .before .before .before .before .before .before .before .before .before .before .before .before .before .before .before) .2 in search needs)
+    (λ c. let k = kept (c .before .before .before .before .before .before .before .before .before .before .before .before .before .before .before .before .before .before .before .before .before .before .before) .3 in search needs)
+    (λ c. let k = kept (c .before .before .before .before .before .before .before .before .before .before .before .before .before .before .before .before .before .before .before .before .before .before .before) .4 in search needs)
+    (λ c. let k = kept (c .before .before .before .before .before .before .before .before .before .before .before .before .before .before .before .before .before .before .before .before .before .before .before) .5 in search needs)
+    (λ c. let k = kept (c .before .before .before .before .before .before .before .before .before .before .before .before .before .before .before .before .before .before .before .before .before .before .before) .6 in search needs)
     (λ c. search needs))

@@ -1,5 +1,4 @@
-use mir.Val.{boolByte}
-use Rattle.rows.proofs.Kit.{refl, ap, Bool, true, false, _-_, _+_, _≤_, _<_, arith, length, needs, now}
+use Rattle.rows.{proofs.Kit.{refl, ap, _-_, _+_, _<_, arith, length, needs, now}, proofs.Bools.one-at-most}
 use Rattle.sheet.specs.declared.SheetHead.{SheetHead}
 use Rattle.initialization_check.{specs.Record.regionsIn, proofs.RecordLaws.Room}
 use Rattle.keep.proofs.{KeepLaws.{Reached, reached-none, row-known, row-room, reached-next, reached-end}, keep_regions.Statement.statement}
@@ -30,18 +29,8 @@ room : (c : tie.In-loop Inv-loop μ-loop)
     (h .platforms + l .i < 80) × (l .n < 64) × Room (regionsIn (l .masks) (l .gpas) (l .sizes) (l .vps) (l .vtls) (l .tables) (l .n)) × (l .n < length (l .rows))
 room c = row-room (c .before .loop .inv) (c .loop-test .taken)
 
-one-at-most : (b : Bool) → boolByte b ≤ 1
-one-at-most true = omega arith
-one-at-most false = omega arith
-
 add-n : tie.Need-add-n Inv-loop μ-loop
 add-n c = let small = room (c .before .before .before .before) .1 in let m = one-at-most (c .before .before .region-of .result .found) in omega arith
-
-add-i : tie.Need-add-i Inv-loop μ-loop
-add-i c = let small = room (c .before .before .before .before .before) .0 in omega arith
-
-loop-less : tie.Need-loop-less Inv-loop μ-loop
-loop-less c = let l = c .before .before .before .before .before .loop-test .taken in omega arith
 
 loop-again : tie.Need-loop-again Inv-loop μ-loop
 loop-again c =
@@ -61,7 +50,8 @@ keep-regions-spec =
     (λ c. let small = room (c .before .before .before) .0 in omega arith)
     (λ c. let small = room (c .before .before .before) .0 in omega arith)
     (λ c. let small = room (c .before .before .before) .1 in omega arith) (λ c. room (c .before .before .before) .3) (λ c. search needs)
-    add-n add-i loop-less loop-again (λ c. c .before .loop .inv .lent .mask .0) (λ c. c .before .loop .inv .lent .gpa .0)
-    (λ c. c .before .loop .inv .lent .size .0) (λ c. c .before .loop .inv .lent .vp .0) (λ c. c .before .loop .inv .lent .vtl .0)
-    (λ c. c .before .loop .inv .lent .table .0) (λ c. c .before .loop .inv .lent .number .0)
-    (λ c. reached-end (c .before .loop .inv) (c .loop-test .left)))
+    add-n (λ c. let small = room (c .before .before .before .before .before) .0 in omega arith)
+    (λ c. let l = c .before .before .before .before .before .loop-test .taken in omega arith) loop-again
+    (λ c. c .before .loop .inv .lent .mask .0) (λ c. c .before .loop .inv .lent .gpa .0) (λ c. c .before .loop .inv .lent .size .0)
+    (λ c. c .before .loop .inv .lent .vp .0) (λ c. c .before .loop .inv .lent .vtl .0) (λ c. c .before .loop .inv .lent .table .0)
+    (λ c. c .before .loop .inv .lent .number .0) (λ c. reached-end (c .before .loop .inv) (c .loop-test .left)))

@@ -1,4 +1,4 @@
--- `put_word` meets its contract: its stores are those of the law `put-word`. Assumes nothing.
+-- `put_word` meets its contract: its stores are those of the law `put-word`.
 use Rattle.rows.proofs.Kit.{now, arith, length-set, needs}
 use Rattle.lent.proofs.{LentLaws.put-word, put_word.Statement.statement}
 use Rattle.lent.proofs.put_word.Tie as tie

@@ -1,4 +1,4 @@
--- `put_words` meets its contract. The loop's invariant: the first k words of the row are put. Assumes nothing.
+-- `put_words` meets its contract. The loop's invariant: the first k words of the row are put.
 use Rattle.rows.proofs.Kit.{_-_, _≤_, _<_, _≡_, refl, sym, arith, length, needs}
 use Rattle.lent.proofs.{LentLaws.{wordsPut, words-none, words-more, words-all, word-length}, put_words.Statement.statement}
 use Rattle.lent.proofs.put_words.Tie as tie
@@ -17,10 +17,7 @@ loop-again c =
     (omega arith, rw (e, word-length) (l .inv .1), rw (e, l .inv .2) (words-more _ _ _ _ h))
 
 returns : tie.Need-returns Inv-loop μ-loop
-returns c =
-    let l = c .before .loop in
-    let z : l .k ≡ 8 = omega arith in
-    rw (l .inv .2, z) (words-all _ _ _)
+returns c = let l = c .before .loop in let z : l .k ≡ 8 = omega arith in rw (l .inv .2, z) (words-all _ _ _)
 
 pub put-words-spec : {M : Type 1} → statement M
 put-words-spec =

@@ -11,14 +11,10 @@ abbrev μ-loop : tie.MeasureT-loop
 
 loop-again : tie.Need-loop-again Inv-loop μ-loop
 unfolding hasBit
-loop-again c =
-    let k = c .before .before .before .loop .k in
-    (search needs, rw bits-more (cc (one-bit k (search needs))), omega arith)
+loop-again c = let k = c .before .before .before .loop .k in (search needs, rw bits-more (cc (one-bit k (search needs))), omega arith)
 
 returns : tie.Need-returns Inv-loop μ-loop
-returns c =
-    let e : c .before .loop .k ≡ 32 = omega arith in
-    (rw (← e) (c .before .loop .inv .1), omega arith)
+returns c = let e : c .before .loop .k ≡ 32 = omega arith in (rw (← e) (c .before .loop .inv .1), omega arith)
 
 pub extract-individual-masks-spec : {M : Type 1} → statement M
 unfolding bitsBelow

@@ -1,11 +1,11 @@
 use Rattle.rows.proofs.Kit.{_≡_, refl, false, not, _&&_, _||_, _+_, _-_, _^_, _≤_, _<_, arith, eqb, length, length-take, length-drop, needs, not-false, now}
 use Rattle.igvm_defs.specs.Refusals.{isFault}
-use Rattle.sheet.specs.Head.{headOf}
-use Rattle.platform_header.specs.Platforms.{supportedPlatformOf}
 use Rattle.masks.specs.Masks.{shares}
-use Rattle.rules.specs.Platforms.{ownPlatformFault}
+use Rattle.sheet.specs.Head.{headOf}
 use Rattle.sheet_reader.proofs.ReaderLaws.{read-room}
+use Rattle.platform_header.specs.Platforms.{supportedPlatformOf}
 use Rattle.sheet_headers.specs.Headers.{sheetHeaders}
+use Rattle.rules.specs.Platforms.{ownPlatformFault}
 use Rattle.platform_accept.proofs.{PlatformLaws.{own-says, Reached, reached-none, reached-more}, accept.Statement.statement}
 use Rattle.platform_accept.proofs.accept.Tie as tie
 
@@ -34,9 +34,6 @@ row-from-requires : tie.Need-row-from-requires Inv-loop μ-loop
 row-from-requires c κs =
     let p = c .before .before .before .before .pre .0 in let l = c .if1 .taken in
     (omega arith, c .before .before .loop .inv .accepted .read .room)
-
-returns-3 : tie.Need-returns-3 Inv-loop μ-loop
-returns-3 c = c .before .before .before .before .before .before .before .before .before .before .loop .inv .accepted
 
 returns-4 : tie.Need-returns-4 Inv-loop μ-loop
 returns-4 c = c .before .before .before .before .before .before .before .before .before .before .before .before .before .before .before .before .loop .inv .accepted
@@ -67,7 +64,7 @@ accept-spec =
     tie.close (tie.spec Inv-loop μ-loop (λ c. reached-none _ _ (c .before .pre .0 .1) (c .before .pre .0 .2)) row-from-requires
     (λ c. c .before .before .before .before .before .loop .inv .accepted)
     (λ c. c .before .before .before .before .before .before .before .loop .inv .accepted) (λ c κs. room (c .before .before .before .before))
-    (λ c κs. long c) returns-3 (λ c κs. let l = long (c .before .before) in omega arith)
-    (λ c. let l = long (c .before .before .before .before) in omega arith) (λ c κs. own-says _ _ (own (c .before .before)) .1)
-    (λ c κs. search needs) (λ c κs. search needs) returns-4 (λ c κs. search needs) after-requires loop-less loop-again
-    (λ c. c .before .before .loop .inv .accepted))
+    (λ c κs. long c) (λ c. c .before .before .before .before .before .before .before .before .before .before .loop .inv .accepted)
+    (λ c κs. let l = long (c .before .before) in omega arith) (λ c. let l = long (c .before .before .before .before) in omega arith)
+    (λ c κs. own-says _ _ (own (c .before .before)) .1) (λ c κs. search needs) (λ c κs. search needs) returns-4 (λ c κs. search needs)
+    after-requires loop-less loop-again (λ c. c .before .before .loop .inv .accepted))

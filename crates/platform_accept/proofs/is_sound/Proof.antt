@@ -1,7 +1,7 @@
 use Rattle.rows.proofs.Kit.{_≡_, now, needs}
 use Rattle.le.specs.Le.{leAt}
-use Rattle.platform_header.specs.Platforms.{supportedPlatformOf}
 use Rattle.masks.specs.Masks.{isOneBit}
+use Rattle.platform_header.specs.Platforms.{supportedPlatformOf}
 use Rattle.platform_accept.proofs.{PlatformLaws.sound-says, is_sound.Statement.statement}
 use Rattle.platform_accept.proofs.is_sound.Tie as tie
 

@@ -1,4 +1,3 @@
--- `validate` meets its contract. Assumes nothing.
 use Rattle.rows.proofs.Kit.{_∙_, needs}
 use Rattle.igvm_defs.specs.Refusals.{isFault}
 use Rattle.rules.specs.Platforms.{validatePlatform}

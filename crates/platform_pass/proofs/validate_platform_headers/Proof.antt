@@ -1,8 +1,8 @@
 use Rattle.rows.proofs.Kit.{_≡_, true, false, _-_, arith, needs, now}
 use Rattle.igvm_defs.specs.Refusals.{isFault}
 use Rattle.sheet.proofs.Readable.{offset-first, readable-bounds}
-use Rattle.platform_check.specs.Record.{PlatformStepped}
 use Rattle.sheet_headers.{specs.Headers.sheetHeaders, proofs.HeaderLaws.sheet-counts, proofs.ListLaws.rows-first}
+use Rattle.platform_check.specs.Record.{PlatformStepped}
 use Rattle.platform_pass.proofs.{PlatformPass.{PlatformsReached, platform-known, platform-room, platform-stepped, platform-next, platforms-stop, platforms-end}, validate_platform_headers.Statement.statement}
 use Rattle.platform_pass.proofs.validate_platform_headers.Tie as tie
 
@@ -27,9 +27,6 @@ loop-holds c =
       reached = rows-first _ _ _ _ _ (rw (c .before .new .ensures, c .before .before .rows .ensures, st .pre .1, offset-first s));
       holds = c .new2 .ensures (sheetHeaders s .platforms);
     }
-
-step-requires : tie.Need-step-requires Inv-loop μ-loop
-step-requires c κs = platform-room (c .before .before .before .loop .inv) (c .before .before .loop-test .taken)
 
 -- what the step answers is the row's fault, and the record with the row
 stepped : (c : tie.After-step Inv-loop μ-loop)
@@ -60,6 +57,7 @@ returns-2 c =
 pub validate-platform-headers-spec : {M : Type 1} → statement M
 validate-platform-headers-spec =
     tie.close (tie.spec Inv-loop μ-loop (λ c. search needs) (λ c κs. search needs) (λ c κs. search needs) (λ c κs. search needs)
-    new-requires (λ c κs. search needs) loop-holds (λ c κs. platform-known (c .before .loop .inv) (c .loop-test .taken)) step-requires
-    (λ c κs. search needs) (λ c. search needs) (λ c κs. search needs) returns (λ c. search needs) (λ c. search needs) loop-again
-    (λ c κs. search needs) (λ c κs. search needs) returns-2)
+    new-requires (λ c κs. search needs) loop-holds (λ c κs. platform-known (c .before .loop .inv) (c .loop-test .taken))
+    (λ c κs. platform-room (c .before .before .before .loop .inv) (c .before .before .loop-test .taken)) (λ c κs. search needs)
+    (λ c. search needs) (λ c κs. search needs) returns (λ c. search needs) (λ c. search needs) loop-again (λ c κs. search needs)
+    (λ c κs. search needs) returns-2)

@@ -1,4 +1,4 @@
--- `count_in` meets its contract: of the first i regions it counts those of the mask. Assumes nothing.
+-- `count_in` meets its contract: of the first i regions it counts those of the mask.
 use Rattle.rows.{proofs.Kit.{_≡_, refl, Bool, false, not, _&&_, List, ℕ, _-_, _≤_, arith, getD, now, needs}, specs.Below.{sumBelow, countBelow}, proofs.BelowLaws.{count-more, count-le}}
 use Rattle.masks.specs.Masks.{matches}
 use Rattle.regions.proofs.count_in.Statement.{statement}
@@ -23,9 +23,6 @@ add-count c =
     let l = c .before .before .before .before .before .loop in
     omega (arith, count-le (l .i) (ofMask (a .given) (now (a .masks)) (now (a .tables))))
 
-loop-again : tie.Need-loop-again Inv-loop μ-loop
-loop-again c = (search needs, rw (count-more, ← c .before .before .before .before .before .loop .inv .1) (cc))
-
 cast-result : tie.Need-cast-result Inv-loop μ-loop
 cast-result c =
     let a = c .before .before .before .before .args in let l = c .before .loop in
@@ -39,4 +36,5 @@ returns c =
 pub count-in-spec : {M : Type 1} → statement M
 count-in-spec =
     tie.close (tie.spec Inv-loop μ-loop loop-holds (λ c. search needs) (λ c. search needs) (λ c κs. search needs) (λ c. search needs)
-    (λ c κs. search needs) add-count (λ c. search needs) (λ c. search needs) loop-again cast-result returns)
+    (λ c κs. search needs) add-count (λ c. search needs) (λ c. search needs)
+    (λ c. (search needs, rw (count-more, ← c .before .before .before .before .before .loop .inv .1) (cc))) cast-result returns)

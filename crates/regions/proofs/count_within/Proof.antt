@@ -1,4 +1,4 @@
--- `count_within` meets its contract: no more than n of the first n regions are of the mask. Assumes nothing.
+-- `count_within` meets its contract: no more than n of the first n regions are of the mask.
 use Rattle.rows.{proofs.Kit.{false, not, _&&_, arith, getD, now, needs}, proofs.BelowLaws.count-le}
 use Rattle.masks.specs.Masks.{matches}
 use Rattle.regions.proofs.count_within.Statement.{statement}

@@ -1,11 +1,7 @@
--- `found_table` meets its contract. Assumes nothing.
 use Rattle.rows.proofs.Kit.{arith, needs, eq-eqb, ne-eqb, now}
 use Rattle.sheet.{specs.Head.limits, proofs.Readable.{at-row, initialization-row}}
 use Rattle.regions.proofs.found_table.Statement.{statement}
 use Rattle.regions.proofs.found_table.Tie as tie
-
-returns : tie.Need-returns
-returns c = let a = c .before .before .args in rw (eq-eqb (a .t) (a .end) (c .if1 .taken))
 
 initialization-at-requires : tie.Need-initialization-at-requires
 initialization-at-requires c κs =
@@ -20,4 +16,6 @@ returns-2 c =
     rw (ne-eqb (a .t) (a .end) (c .before .before .before .if1 .left), ← h) (c .page-table-of .ensures)
 
 pub found-table-spec : {M : Type 1} → statement M
-found-table-spec = tie.close (tie.spec returns (λ c κs. search needs) initialization-at-requires (λ c κs. search needs) returns-2)
+found-table-spec =
+    tie.close (tie.spec (λ c. let a = c .before .before .args in rw (eq-eqb (a .t) (a .end) (c .if1 .taken))) (λ c κs. search needs)
+    initialization-at-requires (λ c κs. search needs) returns-2)

@@ -1,4 +1,3 @@
--- `is_relocatable` meets its contract. Assumes nothing.
 use Rattle.rows.proofs.Kit.{sym, [], _∷_, needs}
 use Rattle.initialization_header.proofs.InitializationLaws.{not-kind}
 use Rattle.regions.proofs.{HeaderLaws.not-relocatable, is_relocatable.Statement.statement}

@@ -1,4 +1,3 @@
--- `is_table` meets its contract. Assumes nothing.
 use Rattle.rows.proofs.Kit.{sym, arith, needs, ne-eqb, now}
 use Rattle.igvm_defs.specs.Kinds.{kindOf, spans}
 use Rattle.initialization_header.{specs.Initializations.initializationOf, proofs.InitializationLaws.kind-initialization}

@@ -1,4 +1,3 @@
--- `put_region` meets its contract. Assumes nothing.
 use Rattle.rows.proofs.Kit.{_≡_, sym, _∙_, add-zero, needs, now}
 use Rattle.igvm_defs.specs.Kinds.{kindOf, spans}
 use Rattle.sheet.proofs.Readable.{codes-18}
@@ -34,10 +33,7 @@ returns c =
     rw (kind-known (c .before .before .before .before .before), region-header (now (a .b))) (sym (c .before .before .before .words-of .ensures)) in
     (rw (← m, t), rw (← m, t, e) (c .before .before .put-words .ensures))
 
-returns-2 : tie.Need-returns-2
-returns-2 c = let m = c .before .is-region .ensures in (rw (← m, c .if1 .left) (sym (add-zero _)), rw (← m, c .if1 .left))
-
 pub put-region-spec : {M : Type 1} → statement M
 put-region-spec =
     tie.close (tie.spec (λ c κs. search needs) words-of-requires put-words-requires (λ c. search needs) (λ c. search needs) returns
-    returns-2)
+    (λ c. let m = c .before .is-region .ensures in (rw (← m, c .if1 .left) (sym (add-zero _)), rw (← m, c .if1 .left))))

@@ -1,4 +1,3 @@
--- `put_regions` meets its contract. Assumes nothing.
 use Rattle.rows.proofs.Kit.{refl, ap, _-_, arith, needs, now}
 use Rattle.regions.proofs.{TurnLaws.Turn, WalkLaws.{Walked, walk-none, lent-length, walk-at, walk-room, walk-few, walk-next, walk-all}, put_regions.Statement.statement}
 use Rattle.regions.proofs.put_regions.Tie as tie
@@ -15,9 +14,6 @@ known : (c : tie.Then1 Inv-loop μ-loop)
 known c =
     let st = c .before .before .before .before .before .before .before .before in
     walk-at (c .before .before .loop .inv) (st .args .head) (st .pre .1) refl (st .pre .0) (c .if1 .taken)
-
-cursor-at-requires : tie.Need-cursor-at-requires Inv-loop μ-loop
-cursor-at-requires c κs = let st = c .before .before .before .before in (st .pre .0, rw (st .pre .1) (omega arith))
 
 loop-holds : tie.Need-loop-holds Inv-loop μ-loop
 loop-holds c =
@@ -65,6 +61,7 @@ returns c =
 
 pub put-regions-spec : {M : Type 1} → statement M
 put-regions-spec =
-    tie.close (tie.spec Inv-loop μ-loop (λ c. search needs) (λ c. search needs) (λ c. search needs) cursor-at-requires loop-holds
+    tie.close (tie.spec Inv-loop μ-loop (λ c. search needs) (λ c. search needs) (λ c. search needs)
+    (λ c κs. let st = c .before .before .before .before in (st .pre .0, rw (st .pre .1) (omega arith))) loop-holds
     (λ c κs. known c .listed .0) (λ c κs. known (c .before) .listed .0) table-row-requires put-region-requires loop-less loop-again
     found-table-requires (λ c. lent-length (c .before .before .before .loop .inv)) returns)

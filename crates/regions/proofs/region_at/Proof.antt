@@ -1,4 +1,4 @@
--- `region_at` meets its contract: over the first i rows the region found is theirs. Assumes nothing.
+-- `region_at` meets its contract: over the first i rows the region found is theirs.
 use Rattle.rows.{proofs.Kit.{_≡_, refl, _∙_, _+_, _-_, _≤_, add-zero, arith, now, needs}, specs.Rows.before, specs.Below.{sumBelow, nthBelow}}
 use Rattle.sheet.{specs.Head.headOf, specs.Walk.cursorAt}
 use Rattle.rules.specs.Relocations.{regionCount, regionAt}
@@ -22,9 +22,6 @@ known c =
     let st = c .before .before .before .before .before .before in let l = c .before .loop in
     turn-at (now (st .args .s)) (st .args .head) (st .pre .1) (st .pre .0) (l .c) (l .i) (l .inv .1) (c .loop-test .taken)
 
-cursor-at-requires : tie.Need-cursor-at-requires Inv-loop μ-loop
-cursor-at-requires c κs = let st = c .before .before .before in (st .pre .0, rw (st .pre .1) (omega arith))
-
 loop-holds : tie.Need-loop-holds Inv-loop μ-loop
 unfolding regionCount regionAt sumBelow nthBelow
 loop-holds c = (omega arith, rw (c .cursor-at .ensures, c .before .before .before .before .pre .1, add-zero), refl, refl)
@@ -34,9 +31,6 @@ add-seen c =
     let t = known (c .before .before .before .before) in
     let a = c .before .before .before .before .before .before .before .before .before .before .args in
     omega (arith, regions-few (sheetInitializations (now (a .s))) (a .given) (c .before .before .before .before .before .loop .i))
-
-add-i : tie.Need-add-i Inv-loop μ-loop
-add-i c = let t = known (c .before .before .before .before .before) in omega arith
 
 loop-again : tie.Need-loop-again Inv-loop μ-loop
 loop-again c =
@@ -58,5 +52,7 @@ returns c =
 
 pub region-at-spec : {M : Type 1} → statement M
 region-at-spec =
-    tie.close (tie.spec Inv-loop μ-loop (λ c. search needs) (λ c. search needs) cursor-at-requires loop-holds (λ c κs. known c .listed)
-    (λ c κs. search needs) (λ c κs. search needs) (λ c κs. search needs) add-seen add-i (λ c. search needs) loop-again returns)
+    tie.close (tie.spec Inv-loop μ-loop (λ c. search needs) (λ c. search needs)
+    (λ c κs. let st = c .before .before .before in (st .pre .0, rw (st .pre .1) (omega arith))) loop-holds (λ c κs. known c .listed)
+    (λ c κs. search needs) (λ c κs. search needs) (λ c κs. search needs) add-seen
+    (λ c. let t = known (c .before .before .before .before .before) in omega arith) (λ c. search needs) loop-again returns)

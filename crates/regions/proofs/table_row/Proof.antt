@@ -1,4 +1,3 @@
--- `table_row` meets its contract. Assumes nothing.
 use Rattle.rows.proofs.Kit.{needs}
 use Rattle.regions.proofs.table_row.Statement.{statement}
 use Rattle.regions.proofs.table_row.Tie as tie

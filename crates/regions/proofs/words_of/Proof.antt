@@ -1,4 +1,3 @@
--- `words_of` meets its contract. Assumes nothing.
 use Rattle.rows.proofs.Kit.{now, needs}
 use Rattle.regions.proofs.{WordLaws.body-words, words_of.Statement.statement}
 use Rattle.regions.proofs.words_of.Tie as tie

@@ -1,4 +1,4 @@
--- `query` meets its contract: past the verdict the arrays hold the regions of the rows, so the count in them is that of the rows. Assumes nothing.
+-- `query` meets its contract: past the verdict the arrays hold the regions of the rows, so the count in them is that of the rows.
 use Rattle.rows.{proofs.Kit.{_≡_, refl, ap, sym, _∙_, true, false, false≢true, arith, length, now, needs}, proofs.Bools.not-both}
 use Rattle.igvm_defs.{specs.Refusals.{isFault, isRefusal, inRow}, proofs.RefusalLaws.{row-refusal, orElse-first, orElse-later}}
 use Rattle.sheet.{specs.Head.{limits, startFault}, proofs.Readable.{start-says, started-bounds}}

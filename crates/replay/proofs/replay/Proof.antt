@@ -1,4 +1,4 @@
--- `replay` is safe and ends: each turn passes a record of 32 bytes or more. Assumes nothing.
+-- `replay` is safe and ends: each turn passes a record of 32 bytes or more.
 use Rattle.rows.proofs.Kit.{_-_, _≤_, length, needs}
 use Rattle.replay.proofs.replay.Statement.{statement}
 use Rattle.replay.proofs.replay.Tie as tie

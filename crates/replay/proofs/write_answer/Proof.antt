@@ -1,4 +1,4 @@
--- `write_answer` is safe and ends: the lent bytes keep their number. Assumes nothing.
+-- `write_answer` is safe and ends: the lent bytes keep their number.
 use Rattle.rows.proofs.Kit.{_≡_, refl, _-_, length, arith, needs}
 use Rattle.replay.proofs.write_answer.Statement.{statement}
 use Rattle.replay.proofs.write_answer.Tie as tie

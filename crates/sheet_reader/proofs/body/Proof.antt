@@ -1,5 +1,4 @@
 -- `sheet_reader::body` meets its contract: it passes the reader's parts on to `body_at`.
--- Assumes nothing.
 use denote.Slice.{sliceTy}
 use mir.Syntax.{imm, tyInt, tyRef, w8}
 use Rattle.rows.proofs.Walks.{named, u8, givenOf, shr-slice-lawful}

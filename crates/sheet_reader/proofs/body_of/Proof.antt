@@ -1,5 +1,4 @@
 -- `sheet_reader::body_of` meets its contract: a walk of its MIR, by hand. A reader that `open` returns is held in a local, and passed to `body`, whose slice is handed back.
--- Assumes nothing.
 use denote.Triple.Walked.{needs}
 use Rattle.rows.{proofs.Kit.{refl, _<_, _^_, [], _∷_}, proofs.Walks.{URA, fullShare, named, erased, w64, Val, vint, ent, Lft, Share, fat, Heap, Calls, Loops, WpFn, Atoms, givenOf, Given, ‵, raw, _⊛_, _$_, _∵_, !, qed, by, move, use1, use2, split, rewrite, look, init, forget, stop, from, load, and-then, no-more, land, returns, enter, alloc1, alloc0, params1, pass1, pass0, free1, free0, FmC, Is, u8, ShrSlice, shr-slice-lawful, Triple, calls-at, cited}}
 use Rattle.sheet_reader.specs.declared.SheetReader.{SheetReader}

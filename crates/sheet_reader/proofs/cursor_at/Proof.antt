@@ -18,13 +18,11 @@ loop-holds c = (omega arith, rw (c .new2 .ensures, c .before .rows .ensures, c .
 cursor-row-requires : tie.Need-cursor-row-requires Inv-loop μ-loop
 cursor-row-requires c κs = let l = c .before .loop in rw (l .inv .1) (at-row limits _ (c .before .before .before .before .before .before .pre .0) (l .i) (omega arith))
 
-loop-again : tie.Need-loop-again Inv-loop μ-loop
-loop-again c = (omega arith, rw (c .before .cursor-row .ensures .1, c .before .before .before .loop .inv .1))
-
 returns : tie.Need-returns Inv-loop μ-loop
 returns c = let z : c .before .loop .i ≡ c .before .before .before .before .before .before .args .k = omega arith in rw (c .before .loop .inv .1, z)
 
 pub cursor-at-spec : {M : Type 1} → statement M
 cursor-at-spec =
     tie.close (tie.spec Inv-loop μ-loop (λ c κs. let b = readable-bounds _ (c .before .pre .0) in omega arith) (λ c κs. search needs)
-    new-requires-2 loop-holds cursor-row-requires (λ c. search needs) (λ c. search needs) loop-again returns)
+    new-requires-2 loop-holds cursor-row-requires (λ c. search needs) (λ c. search needs)
+    (λ c. (omega arith, rw (c .before .cursor-row .ensures .1, c .before .before .before .loop .inv .1))) returns)

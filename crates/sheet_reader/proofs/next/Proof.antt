@@ -1,5 +1,4 @@
 -- `sheet_reader::next` meets its contract: a walk of its MIR, by hand. The reader's parts are passed on to `place_after`, and a reader is made of the same bytes and the place that it returns.
--- Assumes nothing.
 use denote.Struct.Laws.{lawful, tells, owed}
 use Rattle.rows.{proofs.Kit.{_≡_, refl, ap, _+_, _<_, _^_, [], _∷_, T as Holds, now}, proofs.Walks.{URA, fullShare, named, Val, WT, hasTy, ent, sep, Lft, Share, fat, Heap, Calls, Loops, WpFn, Atoms, givenOf, Given, ‵, raw, _⊛_, ⋆, _$_, _∵_, !, qed, by, move, drop, use1, split, rewrite, fsplit, whole, sub, look-in, agg, look, init, forget, stop, fld, from, load, of-opd, and-then, no-more, assigns, land, returns, enter, alloc1, alloc0, params1, pass1, pass0, free1, free0, FmC, plain, only, Triple, calls-at, cited}}
 use Rattle.sheet.{specs.declared.Cursor.Cursor, specs.Walk.cursorAt, proofs.Cursor.{the-type, the-row}, proofs.Cursor.Laws.{the-laws, mir as cursor-mir}}

@@ -1,6 +1,5 @@
 -- `sheet_reader::open` meets its contract: a walk of its MIR, by hand. A reader is made of the slice and the numbers passed, in the result's local.
 -- A `&[u8]` is Copy, so what it owns is had twice: once for the slice at exit, and once inside the result, beside the facts of the numbers.
--- Assumes nothing.
 use types.Kit.{keep}
 use Rattle.rows.{proofs.Kit.{refl, _<_, _^_, [], _∷_}, proofs.Walks.{URA, named, w64, vint, ent, sep, Lft, Share, Heap, Calls, Loops, WpFn, Atoms, givenOf, Given, ‵, raw, _⊛_, _$_, _∵_, !, qed, by, move, use1, split, fsplit, agg, look, init, forget, stop, from, load, and-then, no-more, assigns, returns, enter, alloc1, alloc0, params1, pass1, pass0, free1, free0, Is, u8, ShrSlice, shr-slice-lawful, shr-slice-copy}}
 use Rattle.sheet_reader.specs.declared.SheetReader.{SheetReader}

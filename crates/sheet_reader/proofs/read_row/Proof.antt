@@ -1,5 +1,4 @@
 -- `sheet_reader::read_row` meets its contract: a walk of its MIR, by hand. A reader that `open` returns is held in a local, and passed to `row` and to `next`. After each call the machine value is written out.
--- Assumes nothing.
 use denote.Triple.Walked.{needs}
 use Rattle.rows.{proofs.Kit.{_≡_, refl, ap, subst, _<_, _^_, [], _∷_, now}, proofs.Walks.{URA, fullShare, named, erased, w64, Val, vint, ent, Lft, Share, fat, Heap, Calls, Loops, WpFn, Atoms, givenOf, Given, ‵, raw, _⊛_, _$_, _∵_, !, qed, by, move, drop, use1, use2, split, rewrite, whole, sub, look-in, agg, look, init, forget, stop, fld, from, load, of-opd, and-then, no-more, assigns, land, returns, enter, alloc1, alloc0, params1, pass1, pass0, free1, free0, FmC, Is, u8, plain, ShrSlice, shr-slice-lawful, owned, only, Triple, calls-at, cited}}
 use Rattle.sheet_reader.specs.{Reading.{advanced, readRow}, declared.SheetReader.SheetReader, declared.SheetRow.SheetRow, declared.RowRead.RowRead}

@@ -1,5 +1,4 @@
 -- `sheet_reader::row` meets its contract: it passes the reader's parts on to `row_at`.
--- Assumes nothing.
 use denote.Struct.Laws.{lawful}
 use Rattle.rows.proofs.Walks.{givenOf}
 use Rattle.sheet_reader.proofs.{SheetRow.the-type, SheetRow.Laws.{mir, the-laws}, Walking.{row-does, passing-meets}, row_at.Symbol.{name as #row-at, routine as row-at}, row_at.Met.{met as row-at-met}, row.Key.{name as #row}, row.Statement.statement}

@@ -19,9 +19,6 @@ row-from-requires c κs =
     let n = c .before .before .before .before .before .before .before .rows .ensures in
     (omega arith, c .before .before .loop .inv .0 .room)
 
-loop-less : tie.Need-loop-less Inv-loop μ-loop
-loop-less c = rw (c .after .ensures) (let l = c .before .before .before .before .before .before .if2 .taken in omega arith)
-
 loop-again : tie.Need-loop-again Inv-loop μ-loop
 loop-again c =
     let st = c .before .before .before .before .before .before .before .before .before .before .before .before .before .before .before in
@@ -42,4 +39,6 @@ past-pages-spec =
     (λ c. (c .before .before .before .before .before .before .pre .2, omega arith))
     (λ c. (c .before .before .before .before .before .before .pre .2, omega arith)) row-from-requires
     (λ c. c .before .before .before .before .before .loop .inv) (λ c. c .before .before .before .before .before .before .before .loop .inv)
-    (λ c κs. let f = page (c .before .before) in (omega arith, omega arith)) loop-less loop-again (λ c. c .before .before .loop .inv))
+    (λ c κs. let f = page (c .before .before) in (omega arith, omega arith))
+    (λ c. rw (c .after .ensures) (let l = c .before .before .before .before .before .before .if2 .taken in omega arith)) loop-again
+    (λ c. c .before .before .loop .inv))

@@ -41,9 +41,6 @@ returns c =
     let e : isFault (rowFault s (l .c .row)) ≡ true = rw (← f, ← c .before .before .is-fault .ensures) (c .before .if2 .taken) in
     rw (rows-stop s (l .c .row) n (l .inv .passed) e, ← f) (c .in-row .ensures)
 
-after-requires : tie.Need-after-requires Inv-loop μ-loop
-after-requires c κs = let f = there (c .before) in rw (c .row-from .ensures) (omega arith, omega arith)
-
 past-pages-requires : tie.Need-past-pages-requires Inv-loop μ-loop
 past-pages-requires c κs =
     let st = c .before .before .before .before .before .before .before .before .before .before .before .before .before .before in
@@ -73,5 +70,6 @@ pub read-from-spec : {M : Type 1} → statement M
 read-from-spec =
     tie.close (tie.spec Inv-loop μ-loop (λ c κs. search needs) (λ c κs. search needs) (λ c. c .before .before .before .pre .2)
     (λ c κs. omega arith) (λ c κs. search needs) (λ c. search needs) (λ c. search needs) row-fault-requires (λ c κs. search needs)
-    (λ c. search needs) (λ c κs. search needs) returns (λ c κs. search needs) after-requires
-    past-pages-requires loop-less (λ c. c .past-pages .ensures .0) (λ c κs. search needs) (λ c κs. search needs) returns-2)
+    (λ c. search needs) (λ c κs. search needs) returns (λ c κs. search needs)
+    (λ c κs. let f = there (c .before) in rw (c .row-from .ensures) (omega arith, omega arith)) past-pages-requires loop-less
+    (λ c. c .past-pages .ensures .0) (λ c κs. search needs) (λ c κs. search needs) returns-2)

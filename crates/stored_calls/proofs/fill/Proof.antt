@@ -1,4 +1,4 @@
--- `fill` is safe and ends: the slice keeps its length. Assumes nothing.
+-- `fill` is safe and ends: the slice keeps its length.
 use Rattle.rows.proofs.Kit.{_≡_, _-_, length, needs}
 use Rattle.stored_calls.proofs.fill.Statement.{statement}
 use Rattle.stored_calls.proofs.fill.Tie as tie

@@ -1,4 +1,3 @@
--- `start` meets its contract. Assumes nothing.
 use Rattle.rows.proofs.Kit.{arith, length-take, needs}
 use Rattle.stored_calls.proofs.start.Statement.{statement}
 use Rattle.stored_calls.proofs.start.Tie as tie

@@ -1,4 +1,4 @@
--- `write_bytes` is safe and ends. Assumes nothing.
+-- `write_bytes` is safe and ends.
 use Rattle.rows.proofs.Kit.{_-_, length, needs}
 use Rattle.stored_calls.proofs.write_bytes.Statement.{statement}
 use Rattle.stored_calls.proofs.write_bytes.Tie as tie

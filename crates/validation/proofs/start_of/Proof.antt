@@ -1,12 +1,9 @@
 use Rattle.rows.{proofs.Kit.{_-_, _+_, arith, _≡_, ap, _∙_, needs, now}, specs.Below.anyBelow}
 use Rattle.sheet.{specs.declared.SheetHead.SheetHead, specs.declared.Cursor.Cursor, specs.Head.firstDirective}
-use Rattle.directive_check.proofs.DirectiveRecordLaws.{holds-no-contexts}
 use Rattle.sheet_headers.specs.Headers.{sheetHeaders}
+use Rattle.directive_check.proofs.DirectiveRecordLaws.{holds-no-contexts}
 use Rattle.validation.proofs.start_of.Statement.{statement}
 use Rattle.validation.proofs.start_of.Tie as tie
-
-cursor-at-requires : tie.Need-cursor-at-requires
-cursor-at-requires c κs = let st = c .before .before .before .before .before in (st .pre .0, rw (st .pre .1) (omega arith))
 
 -- at the first directive row no row is passed
 returns : tie.Need-returns
@@ -26,4 +23,6 @@ returns-2 c =
     ((a .read .at, a .low, a .read .high), (a .good, a .holds))
 
 pub start-of-spec : {M : Type 1} → statement M
-start-of-spec = tie.close (tie.spec (λ c. search needs) (λ c. search needs) (λ c. search needs) cursor-at-requires returns returns-2)
+start-of-spec =
+    tie.close (tie.spec (λ c. search needs) (λ c. search needs) (λ c. search needs)
+    (λ c κs. let st = c .before .before .before .before .before in (st .pre .0, rw (st .pre .1) (omega arith))) returns returns-2)

@@ -10,9 +10,6 @@ rows-passed c = rw (← c .before .before .read-from .ensures, ← c .before .is
 size-passed : (c : tie.Else2) → isRefusal (inRow 0 (pageSizeFault (headOf (now (c .before .before .before .before .before .before .before .before .args .s))))) ≡ false
 size-passed c = rw (← c .before .before .before .before .before .before .before .before .pre .1, ← c .before .before .before .page-size-fault .ensures, ← c .before .before .in-row .ensures, ← c .before .is-refusal2 .ensures) (c .if2 .left)
 
-read-from-requires : tie.Need-read-from-requires
-read-from-requires c κs = let p = c .before .pre in (p .1, rw (p .1) (start-says limits _ .0 (p .0) .table), p .2)
-
 returns : tie.Need-returns
 returns c =
     let told = c .before .before .before .read-from .ensures in
@@ -37,5 +34,6 @@ returns-3 c =
 
 pub validate-from-spec : {M : Type 1} → statement M
 validate-from-spec =
-    tie.close (tie.spec read-from-requires (λ c κs. search needs) (λ c κs. search needs) returns (λ c κs. search needs)
-    (λ c κs. search needs) (λ c κs. search needs) (λ c κs. search needs) returns-2 validate-headers-requires returns-3)
+    tie.close (tie.spec (λ c κs. let p = c .before .pre in (p .1, rw (p .1) (start-says limits _ .0 (p .0) .table), p .2))
+    (λ c κs. search needs) (λ c κs. search needs) returns (λ c κs. search needs) (λ c κs. search needs) (λ c κs. search needs)
+    (λ c κs. search needs) returns-2 validate-headers-requires returns-3)

@@ -1,8 +1,8 @@
 use Rattle.rows.{proofs.Bools.not-both, proofs.Kit.{now, true, false, _≡_, sym, _∙_, needs}}
 use Rattle.igvm_defs.specs.Refusals.{isRefusal}
 use Rattle.sheet.{proofs.Readable.sheet-says, specs.Read.Readable, specs.Head.limits}
-use Rattle.rules.specs.Verdict.{platformsRefusal, initializationsRefusal}
 use Rattle.sheet_headers.specs.Headers.{sheetHeaders}
+use Rattle.rules.specs.Verdict.{platformsRefusal, initializationsRefusal}
 use Rattle.validation.proofs.{VerdictLaws.{headers-platforms, headers-initializations, headers-directives}, validate_headers.Statement.statement}
 use Rattle.validation.proofs.validate_headers.Tie as tie
 

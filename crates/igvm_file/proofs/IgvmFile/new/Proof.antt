@@ -14,11 +14,9 @@ returns c =
     let u : isRefusal (inRow 0 (startFault limits (now (c .before .before .before .before .before .before .args .s)))) ≡ true = row-refusal 0 _ ∙ t in
     c .refused .ensures ∙ rw (c .before .in-row .ensures, c .before .before .before .before .start-fault .ensures) (sym (refused limits _ _ (verdict-start limits _ t) u))
 
-judge-few-requires : tie.Need-judge-few-requires
-judge-few-requires c κs = (started (c .before .before .before), c .before .before .new .ensures, c .if2 .taken)
-
 pub new-spec : {M : Type 1} → statement M
 new-spec =
     tie.close (tie.spec (λ c κs. search needs) (λ c κs. search needs) (λ c κs. search needs) (λ c κs. search needs) returns
-    (λ c κs. start-says limits _ .0 (started c) .head) judge-few-requires (λ c. search needs)
+    (λ c κs. start-says limits _ .0 (started c) .head)
+    (λ c κs. (started (c .before .before .before), c .before .before .new .ensures, c .if2 .taken)) (λ c. search needs)
     (λ c κs. (started (c .before .before .before), c .before .before .new .ensures)) (λ c. search needs))

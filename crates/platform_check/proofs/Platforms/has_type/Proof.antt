@@ -9,9 +9,7 @@ abbrev μ-loop : tie.MeasureT-loop
 μ-loop kind self n i₀ found₀ i found = n - i
 
 returns : tie.Need-returns Inv-loop μ-loop
-returns c =
-    let e : c .before .loop .i ≡ c .before .before .args .t1 .count = omega arith in
-    rw e at (c .before .loop .inv .1)
+returns c = let e : c .before .loop .i ≡ c .before .before .args .t1 .count = omega arith in rw e at (c .before .loop .inv .1)
 
 pub has-type-spec : {M : Type 1} → statement M
 unfolding anyBelow

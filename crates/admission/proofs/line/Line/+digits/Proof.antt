@@ -1,4 +1,4 @@
--- `digits` meets its contract: the measure is k. Assumes nothing.
+-- `digits` meets its contract: the measure is k.
 use borrow.{Fn.Kinds.In, Fn.PlainCycle.{Measures, is, falls, and}}
 use Rattle.rows.proofs.Kit.{sym, append-assoc, append-nil, arith, length-append, needs, ℕ, _-_, _/_, _<_}
 use Rattle.admission.specs.Line.{digitsIn}

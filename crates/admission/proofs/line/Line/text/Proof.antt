@@ -1,4 +1,4 @@
--- `text` meets its contract: after i turns the line has the first i bytes more. Assumes nothing.
+-- `text` meets its contract: after i turns the line has the first i bytes more.
 use lib.Seq.{take-length}
 use Rattle.rows.proofs.Kit.{_≡_, sym, _++_, append-assoc, append-nil, _+_, _-_, _≤_, _<_, add-one, arith, length, take, take-suc, now, needs}
 use Rattle.admission.specs.Text.{textOf}
