@@ -8,15 +8,20 @@ use Rattle.initialization_check.proofs.check.Tie as tie
 
 returns : tie.Need-returns
 returns c ps xs i hp e held covers =
-    let b = c .before .before .before .before .before .before in
+    let b = c .before .before .before .before .before .before .before in
     let s = b .before .before .before .before .before .before .before in
     let n = s .before .before .before .before in
     let a = n .before .args in
     let new = n .region-of .result in
     let own : b .or-fault .result ≡ orFault (validateInitialization (a .h)) (policyFault (a .arch) ps (a .h)) =
     rw (← b .before .before .validate .ensures, ← b .before .policy-fault .ensures ps hp) (b .or-fault .ensures) in
-    let told : c .or4 .result ≡ initializationFault (a .arch) ps (before i xs) (xs .row i) =
+    let told : c .or-fault2 .result ≡ initializationFault (a .arch) ps (before i xs) (xs .row i) =
     rw (
+      c .or-fault2 .ensures,
+      c .before .refuse4 .ensures,
+      c .before .before .refuse3 .ensures,
+      c .before .before .before .refuse2 .ensures,
+      c .before .before .before .before .refuse .ensures,
       ← e,
       row-fault (a .arch) ps (before i xs) (a .h) (new .found) (new .region) (n .region-of .ensures),
       ← own,
@@ -24,9 +29,8 @@ returns c ps xs i hp e held covers =
       ← s .any-tables-share .ensures,
       ← near-overlap (a .reach) (before i xs) (new .region) _ covers (held .overlaps (new .region)),
       ← b .before .before .before .any-near-overlap .ensures,
-      ← c .before .before .ends-beyond .ensures,
-    )
-    (c .or4 .ensures .is ∙ c .before .or3 .ensures .later _ ∙ c .before .before .before .or2 .ensures .later _ ∙ c .before .before .before .before .before .or .ensures .later _) in
+      ← c .before .before .before .before .before .before .ends-beyond .ensures,
+    ) in
     record {
       told = told;
       region = rw (← e) (n .region-of .ensures);
@@ -37,4 +41,4 @@ pub check-spec : {M : Type 1} → statement M
 check-spec =
     tie.close (tie.spec (λ c κs. search needs) (λ c κs. search needs) (λ c κs. search needs) (λ c κs. search needs) (λ c κs. search needs)
     (λ c κs. search needs) (λ c κs. search needs) (λ c κs. search needs) (λ c κs. search needs) (λ c κs. search needs)
-    (λ c κs. search needs) returns)
+    (λ c κs. search needs) (λ c κs. search needs) returns)
