@@ -113,17 +113,10 @@ pub fn start_fault(s: &[u8]) -> Fault
     }
     let h = SheetHead::new(s);
     let short = n < 16 + 8 * h.rows();
-    igvm_defs::refuse(
-        !h.layout_ok(),
-        2,
-        0,
-        igvm_defs::refuse(
-            !h.within_limits(n),
-            3,
-            0,
-            igvm_defs::refuse(short, 1, 0, Fault::NONE),
-        ),
-    )
+    Fault::NONE
+        .or(2, 0, !h.layout_ok())
+        .or(3, 0, !h.within_limits(n))
+        .or(1, 0, short)
 }
 
 // ---- rows
