@@ -9,10 +9,6 @@ use Rattle.directive_check.proofs.arch_fault.Tie as tie
 abbrev others : List ℕ
 others = 0 ∷ 1 ∷ 2 ∷ 3 ∷ 4 ∷ 5 ∷ 6 ∷ 7 ∷ 8 ∷ 9 ∷ 10 ∷ 11 ∷ 12 ∷ 13 ∷ 18 ∷ 19 ∷ 20 ∷ 21 ∷ []
 
--- /work/h/2/target/rlib/igvm_defs.rlib/interface/lang/src/lib.rt:4:26
--- /work/h/2/target/rlib/igvm_defs.rlib/interface/lang/src/lib.rt:4:26
--- /work/h/2/target/rlib/igvm_defs.rlib/interface/lang/src/lib.rt:4:26
--- /work/h/2/target/rlib/igvm_defs.rlib/interface/lang/src/lib.rt:4:26
 returns-5 : tie.Need-returns-5
 unfolding wrongContextArch
 returns-5 c =
