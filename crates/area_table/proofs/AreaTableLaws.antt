@@ -47,6 +47,10 @@ module _ (few links areas states : List ℕ) (x : ℕ) where
   unfolding stateIn
   state-large l = rw (le-ltb x 1024 l)
 
+  -- by its place
+  pub state-place : 1024 ≤ x → (r : ℕ) → r ≡ placeOf links areas x → stateIn few links areas states x ≡ stateAt links states r
+  state-place l r e = rw e (state-large l)
+
 -- ---- where a walk ends
 
 module _ (links areas : List ℕ) (x p : ℕ) where
@@ -259,19 +263,13 @@ holds-same h e = record { sizes = h .sizes; told = λ x n. h .told x n ∙ e x; 
 pub place-link : (links areas : List ℕ) (x r : ℕ) → r ≡ placeOf links areas x → r < 3074 → getD links r 0 < 1025
 place-link links areas x r e l = rw e (place-says links areas x (rw e at l) .0)
 
--- a large area of which the table can tell has a place, and where that is empty there is room for its node
-module _ (few links areas states : List ℕ) (x : ℕ) (large : 1024 ≤ x) (told : stateIn few links areas states x ≢ 3) (r : ℕ) (e : r ≡ placeOf links areas x) where
-  told-at : stateAt links states r ≢ 3
-  told-at q = told (state-large few links areas states x large ∙ ap (stateAt links states) (sym e) ∙ q)
-
-  pub told-place : r < 3074
-  told-place = place-told links states r told-at
-
-  pub told-link : getD links r 0 < 1025
-  told-link = place-link links areas x r e told-place
-
-  pub told-room : getD links r 0 ≡ 0 → getD links 1024 0 < 1024
-  told-room = room-told links states r told-at
+-- a place of which the table can tell is one of its own, and where it is empty there is room for a node
+pub told-place : (links areas states : List ℕ) (x r v : ℕ) → r ≡ placeOf links areas x → v ≡ stateAt links states r → v ≢ 3
+    → (r < 3074) × (getD links r 0 < 1025) × (getD links r 0 ≡ 0 → getD links 1024 0 < 1024)
+told-place links areas states x r v e s n =
+    let t : stateAt links states r ≢ 3 = λ q. n (s ∙ q) in
+    let l = place-told links states r t in
+    (l, place-link links areas x r e l, room-told links states r t)
 
 module _ (few links areas states : List ℕ) (f : ℕ → ℕ) (h : HoldsAreas few links areas states f) (a v : ℕ) where
   -- one area has a new state, and of the others that can be told the same is known

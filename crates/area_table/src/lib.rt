@@ -1,10 +1,11 @@
 // What is known of each area, by its index (specs/AreaTable.antt): small indexes have a place of their own, others are found in a tree by their bits.
-ghost use mathlib.Core.Bool.{cond};
+ghost use mathlib.Core.Bool.{cond, _&&_};
 ghost use mathlib.Core.Logic.{_≢_};
 ghost use mathlib.Core.Path.{_≡_};
 ghost use Prim.Native.Nat.{ℕ, _<_, _≤_};
 ghost use lib.Dec.{eqb};
-ghost use Rattle.area_table.specs.AreaTable.{root, placeOf, stateIn, HoldsAreas};
+ghost use lib.ListN.{getD};
+ghost use Rattle.area_table.specs.AreaTable.{root, placeOf, stateAt, stateIn, HoldsAreas};
 
 // Areas below this have a place of their own.
 pub const FEW: usize = 1024;
@@ -57,6 +58,24 @@ fn place_of(links: &[u16; LINKS], areas: &[u32; NODES], area: u32) -> usize
     LINKS
 }
 
+// What is known of an area by its place.
+fn state_at(links: &[u16; LINKS], states: &[u8; NODES], p: usize) -> u8
+    requires { ⌜ (p < 3074 → getD (now links) p 0 < 1025) ⌝ }
+    ensures { λ r. ⌜ r ≡ stateAt (now (links .entry)) (now (states .entry)) p ⌝ }
+{
+    if LINKS <= p {
+        return UNTOLD;
+    }
+    let k = links[p] as usize;
+    if k != 0 {
+        return states[k];
+    }
+    if links[COUNT] < LAST {
+        return 0;
+    }
+    UNTOLD
+}
+
 // What is known of an area.
 pub fn state_of(
     few: &[u8; FEW],
@@ -71,47 +90,45 @@ pub fn state_of(
     if a < FEW {
         return few[a];
     }
-    let p = place_of(links, areas, area);
-    if LINKS <= p {
-        return UNTOLD;
-    }
-    let k = links[p] as usize;
-    if k != 0 {
-        return states[k];
-    }
-    if links[COUNT] < LAST {
-        return 0;
-    }
-    UNTOLD
+    state_at(links, states, place_of(links, areas, area))
 }
 
-// From now on the state of the area, of which the table could tell, is the given one; of every other area the same is known as before.
-pub fn put(
+// Where the area is in the first of two states, it is in the second from now on, and of every other area the same is known as before. Else nothing changes.
+pub fn change(
     few: &mut [u8; FEW],
     links: &mut [u16; LINKS],
     areas: &mut [u32; NODES],
     states: &mut [u8; NODES],
     area: u32,
-    state: u8,
-)
-    requires { ⌜ stateIn (now few) (now links) (now areas) (now states) area ≢ 3 ⌝ }
-    ensures { λ _. ⌜ ((f : ℕ → ℕ) → HoldsAreas (now (few .entry)) (now (links .entry)) (now (areas .entry)) (now (states .entry)) f → HoldsAreas (now (few .exit)) (now (links .exit)) (now (areas .exit)) (now (states .exit)) (λ x. cond (eqb x area) state (f x))) ⌝ }
+    from: u8,
+    to: u8,
+) -> bool
+    requires { ⌜ from ≢ 3 ⌝ }
+    ensures { λ r. ⌜ r ≡ eqb (stateIn (now (few .entry)) (now (links .entry)) (now (areas .entry)) (now (states .entry)) area) from ⌝ }
+    ensures { λ r. ⌜ ((f : ℕ → ℕ) → HoldsAreas (now (few .entry)) (now (links .entry)) (now (areas .entry)) (now (states .entry)) f → HoldsAreas (now (few .exit)) (now (links .exit)) (now (areas .exit)) (now (states .exit)) (λ x. cond (r && eqb x area) to (f x))) ⌝ }
 {
     let a = area as usize;
     if a < FEW {
-        few[a] = state;
-        return;
+        if few[a] != from {
+            return false;
+        }
+        few[a] = to;
+        return true;
     }
     let p = place_of(links, areas, area);
+    if state_at(links, states, p) != from {
+        return false;
+    }
     let k = links[p] as usize;
     if k != 0 {
-        states[k] = state;
-        return;
+        states[k] = to;
+        return true;
     }
     let m = links[COUNT] + 1;
     let n = m as usize;
     areas[n] = area;
-    states[n] = state;
+    states[n] = to;
     links[p] = m;
     links[COUNT] = m;
+    true
 }

@@ -1,47 +1,20 @@
 -- Rows in order that name an area, and the rows with a table of areas.
-use Rattle.rows.{proofs.Kit.{ℕ, _-_, _≤_, _<_, arith, _≡_, refl, sym, _∙_, true, false, or-false, List, [], _∷_, length, getD, take, drop, replicate}, specs.Below.anyBelow, specs.Rows.{Rows, before}}
+use Rattle.rows.{proofs.Kit.{ℕ, _-_, _≤_, _<_, arith, _≡_, refl, sym, _∙_, false, or-false, List, [], _∷_, length, getD, take, drop, replicate}, specs.Below.anyBelow, specs.Rows.{Rows, before}}
 use Rattle.masks.specs.Masks.{shares}
 use Rattle.sheet.{specs.declared.Cursor.Cursor, specs.Head.{headOf, rowCount, firstDirective}, specs.Table.{rowKind, bodyOf}, specs.Walk.ReadTo}
 use Rattle.sheet_reader.{specs.declared.SheetRow.SheetRow, specs.Reading.{readAt, cursorAfter}, proofs.ReaderLaws.{list-found, body-found}}
-use Rattle.directive_header.{specs.declared.IgvmDirectiveHeader.IgvmDirectiveHeader, specs.Directives.directiveOf, specs.Fields.isParameter}
+use Rattle.directive_header.{specs.declared.IgvmDirectiveHeader.IgvmDirectiveHeader, specs.Directives.directiveOf}
 use Rattle.sheet_headers.specs.Headers.{sheetHeaders}
 use Rattle.rules.specs.Directives.{isContext}
 use Rattle.directive_check.proofs.DirectiveRecordLaws.{holds-no-contexts}
 use Rattle.area_table.{specs.AreaTable.HoldsAreas, proofs.AreaTableLaws.{holds-same, holds-none}}
-use Rattle.directive_row.{specs.Row.{AreaRow, NamedRow, ContextsNext, stateOf}, proofs.AreaRowLaws.{parameter-table, parameter-context, parameter-state}}
-use Rattle.directive_accept.specs.Accepted.{DirectivesAccepted, NamedAccepted, PlainAccepted, PlainPassed, AreasPassed, Onward, stateBefore}
+use Rattle.directive_row.specs.Row.{NamedRow, ContextsNext, stateOf}
+use Rattle.directive_accept.specs.Accepted.{DirectivesAccepted, NamedAccepted, PlainAccepted, PlainPassed, AreasPassed, stateBefore}
 use Rattle.directive_accept.proofs.AcceptedLaws.{read-row, accepted-more, state-more}
 
 -- a header that is no context leaves the masks as they are
 pub contexts-stay : (contexts : List ℕ) (h : IgvmDirectiveHeader) → ((level bits : ℕ) → isContext level bits h ≡ false) → ContextsNext contexts h contexts
 contexts-stay contexts h other level bits = rw (other level bits) (sym (or-false (shares (getD contexts level 0) bits)))
-
--- ---- the rows
-
-module _ (s : List ℕ) (few links areas states : List ℕ) where
-  -- a parameter in order
-  pub onward-parameter : (c d : Cursor) → HoldsAreas few links areas states (stateBefore s (c .row)) → Onward s c d → d .row < rowCount (headOf s)
-      → (r : SheetRow) → r ≡ readAt s (d .row) (d .at) → isParameter (r .kind) ≡ true → (body : List ℕ) → body ≡ take (r .length) (drop (d .at) s)
-      → ((earlier : Rows IgvmDirectiveHeader) → HoldsAreas few links areas states (stateOf earlier) → AreaRow (sheetHeaders s .arch) earlier (r .kind) body few links areas states)
-      → Onward s c (cursorAfter d r)
-  onward-parameter c d h o l r e p body part row =
-      let earlier = before (d .row - firstDirective s) (sheetHeaders s .directives) in
-      let b = row earlier (holds-same h (λ x. sym (o .areas x))) in
-      let f = list-found s (d .row) (d .at) r e (rw (b .sound .list) (omega arith)) in
-      let a : AreaRow (sheetHeaders s .arch) earlier (rowKind s (d .row)) (bodyOf s (d .row)) few links areas states = rw (f .kind, part ∙ body-found s d (o .read) r f) at b in
-      let param : isParameter (rowKind s (d .row)) ≡ true = rw (f .kind) at p in
-      let low = o .low in let first = o .first in
-      record {
-        low = omega arith;
-        first = omega arith;
-        read = read-row s d (o .read) r f l first (sheetHeaders s .arch) (a .sound);
-        accepted =
-            λ contexts b.
-            accepted-more s d (o .read) r f l contexts contexts (o .accepted contexts b) (a .sound) (a .area)
-            (parameter-table (rowKind s (d .row)) param (bodyOf s (d .row)) (sheetHeaders s .initializations))
-            (contexts-stay contexts (directiveOf (rowKind s (d .row)) (bodyOf s (d .row))) (parameter-context (rowKind s (d .row)) param (bodyOf s (d .row))));
-        areas = λ x. state-more s (d .row) first x ∙ parameter-state (rowKind s (d .row)) param (bodyOf s (d .row)) earlier x ∙ o .areas x;
-      }
 
 -- ---- rows that name an area
 
@@ -74,18 +47,6 @@ areas-next s c d few links areas states fewNext linksNext areasNext statesNext a
           accepted-more s d (a .read) r f l contexts contexts (a .accepted contexts b) (n .row .sound) (n .row .area) (n .table)
           (contexts-stay contexts (directiveOf (rowKind s (d .row)) (bodyOf s (d .row))) (n .other));
       known = holds-same (n .row .known) (λ x. sym (state-more s (d .row) first x));
-    }
-
-pub areas-onward : (s : List ℕ) (from c d : Cursor) (few links areas states : List ℕ) → AreasPassed s from c few links areas states → Onward s c d
-    → AreasPassed s from d few links areas states
-areas-onward s from c d few links areas states a o =
-    let low = a .low in let more = o .low in
-    record {
-      low = omega arith;
-      first = o .first;
-      read = o .read;
-      accepted = λ contexts b. o .accepted contexts (a .accepted contexts b);
-      known = holds-same (a .known) (λ x. sym (o .areas x));
     }
 
 -- rows that name an area, and rows behind them that name none

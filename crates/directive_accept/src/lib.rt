@@ -62,61 +62,6 @@ fn past_plain(s: &[u8], from: Cursor, end: usize, x64: bool, contexts: &mut [u32
     c
 }
 
-// Past the parameters in order from the cursor on.
-fn past_parameters(
-    s: &[u8],
-    from: Cursor,
-    end: usize,
-    few: &[u8; area_table::FEW],
-    links: &[u16; area_table::LINKS],
-    areas: &[u32; area_table::NODES],
-    states: &[u8; area_table::NODES],
-) -> Cursor
-    requires { ⌜ (bodiesAt (headOf (now s)) ≤ length (now s)) × ReadTo (now s) from × (firstDirective (now s) ≤ from .row) × (end ≡ rowCount (headOf (now s))) ⌝ }
-    requires { ⌜ HoldsAreas (now few) (now links) (now areas) (now states) (stateBefore (now s) (from .row)) ⌝ }
-    ensures { λ r. ⌜ Onward (now (s .entry)) from r ⌝ }
-{
-    let mut c = from;
-    while c.row < end {
-        let r = sheet_reader::row_from(s, c);
-        if !directive_check::is_parameter(r.kind) {
-            return c;
-        }
-        if !directive_row::parameter_row(
-            sheet_reader::body_from(s, c, r),
-            few,
-            links,
-            areas,
-            states,
-        ) {
-            return c;
-        }
-        c = sheet_reader::after(c, r);
-    }
-    c
-}
-
-// Parameters come one behind the other: a loop of their own takes them.
-fn past_uses(
-    s: &[u8],
-    kind: u32,
-    from: Cursor,
-    end: usize,
-    few: &[u8; area_table::FEW],
-    links: &[u16; area_table::LINKS],
-    areas: &[u32; area_table::NODES],
-    states: &[u8; area_table::NODES],
-) -> Cursor
-    requires { ⌜ (bodiesAt (headOf (now s)) ≤ length (now s)) × ReadTo (now s) from × (firstDirective (now s) ≤ from .row) × (end ≡ rowCount (headOf (now s))) ⌝ }
-    requires { ⌜ HoldsAreas (now few) (now links) (now areas) (now states) (stateBefore (now s) (from .row)) ⌝ }
-    ensures { λ r. ⌜ Onward (now (s .entry)) from r ⌝ }
-{
-    if directive_check::is_parameter(kind) {
-        return past_parameters(s, from, end, few, links, areas, states);
-    }
-    from
-}
-
 // Past the rows in order that name an area.
 fn past_area_rows<'a>(
     s: &'a [u8],
@@ -155,16 +100,7 @@ fn past_area_rows<'a>(
         ) {
             return c;
         }
-        c = past_uses(
-            s,
-            r.kind,
-            sheet_reader::after(c, r),
-            end,
-            few,
-            links,
-            areas,
-            states,
-        );
+        c = sheet_reader::after(c, r);
     }
     c
 }

@@ -1,5 +1,5 @@
 -- Rows that name an area: what is known of it tells the area rule, and what is known afterwards.
-use Rattle.rows.{proofs.Kit.{ℕ, _≤_, _<_, arith, _≡_, refl, sym, ap, _∙_, Bool, true, false, cond, not, _||_, or-false, List, eqb, leb, length, leb-true, le-leb, eqb-true}, specs.Rows.{Rows, any}, proofs.Bools.{and-parts, and-both}}
+use Rattle.rows.{proofs.Kit.{ℕ, _<_, arith, _≡_, refl, sym, ap, _∙_, Bool, true, false, cond, not, _||_, or-false, List, eqb, leb, length, leb-true, eqb-true}, specs.Rows.{Rows, any}, proofs.Bools.and-parts}
 use Rattle.le.specs.Le.{leAt}
 use Rattle.igvm_defs.{specs.declared.Arch.Arch, specs.declared.Kind.Kind, specs.Kinds.{kindOf, spans, lengthOk, directiveList}, specs.Refusals.isFault, proofs.Runs.{each, _⨾_}}
 use Rattle.addresses.specs.Addresses.{onPage}
@@ -130,7 +130,7 @@ unfolding kindOf spans lengthOk
 parameter-long = refl
 
 module _ (k : ℕ) (e : isParameter k ≡ true) (b : List ℕ) where
-  pub parameter-state : (earlier : Rows IgvmDirectiveHeader) (x : ℕ) → stateAfter earlier (directiveOf k b) x ≡ stateOf earlier x
+  parameter-state : (earlier : Rows IgvmDirectiveHeader) (x : ℕ) → stateAfter earlier (directiveOf k b) x ≡ stateOf earlier x
   unfolding stateOf stateAfter
   parameter-state earlier x =
       rw (parameter k e .allocated x b, parameter k e .inserted x b, or-false (any (allocates x) earlier), or-false (any (inserts x) earlier))
@@ -145,10 +145,10 @@ module _ (k : ℕ) (e : isParameter k ≡ true) (b : List ℕ) where
         known = holds-same h (λ x. sym (parameter-state earlier x));
       }
 
-  pub parameter-table : (is : Rows IgvmInitializationHeader) → insideTable is (directiveOf k b) ≡ false
+  parameter-table : (is : Rows IgvmInitializationHeader) → insideTable is (directiveOf k b) ≡ false
   parameter-table is = parameter k e .table is b
 
-  pub parameter-context : (level bits : ℕ) → isContext level bits (directiveOf k b) ≡ false
+  parameter-context : (level bits : ℕ) → isContext level bits (directiveOf k b) ≡ false
   parameter-context level bits = parameter k e .context level bits b
 
 -- ---- what each arm gives
@@ -166,7 +166,3 @@ module _ (arch : Arch) (is : Rows IgvmInitializationHeader) (earlier : Rows Igvm
   pub parameter-named : (kind : ℕ) → isParameter kind ≡ true → (b few links areas states : List ℕ) → AreaRow arch earlier kind b few links areas states
       → NamedRow arch is earlier kind b few links areas states
   parameter-named kind p b few links areas states row = record { row = row; table = parameter-table kind p b is; other = parameter-context kind p b }
-
--- the kinds of the arm
-pub is-parameter : (kind : ℕ) → 34 ≤ kind → kind ≤ 43 → isParameter kind ≡ true
-is-parameter kind l h = and-both (leb 34 kind) (leb kind 43) (le-leb 34 kind l) (le-leb kind 43 h)

@@ -82,15 +82,11 @@ fn parameter_area_row(
         return false;
     }
     let area = le::u32_at(b, 8);
-    if area_table::state_of(few, links, areas, states, area) != 0 {
-        return false;
-    }
-    area_table::put(few, links, areas, states, area, 1);
-    true
+    area_table::change(few, links, areas, states, area, 0, 1)
 }
 
 // 34 to 43: an area that is allocated.
-pub fn parameter_row(
+fn parameter_row(
     b: &[u8],
     few: &[u8; area_table::FEW],
     links: &[u16; area_table::LINKS],
@@ -123,11 +119,7 @@ fn insert_row(
     if !addresses::on_page(le::u64_at(b, 0)) {
         return false;
     }
-    if area_table::state_of(few, links, areas, states, area) != 1 {
-        return false;
-    }
-    area_table::put(few, links, areas, states, area, 2);
-    true
+    area_table::change(few, links, areas, states, area, 1, 2)
 }
 
 // 50: no page table of the first n regions holds the address.
@@ -196,9 +188,11 @@ pub fn area_row<'a>(
     ensures { λ r. ⌜ ((arch : Arch) (is : Rows IgvmInitializationHeader) (earlier : Rows IgvmDirectiveHeader) → HoldsTables (now (masks .entry)) (now (gpas .entry)) (now (sizes .entry)) (now (tables .entry)) n is → HoldsAreas (now (few .entry)) (now (links .entry)) (now (areas .entry)) (now (states .entry)) (stateOf earlier) → r ≡ true → NamedRow arch is earlier kind (now (b .entry)) (now (few .exit)) (now (links .exit)) (now (areas .exit)) (now (states .exit))) ⌝ }
     ensures { λ r. ⌜ ((known : ℕ → ℕ) → r ≡ false → HoldsAreas (now (few .entry)) (now (links .entry)) (now (areas .entry)) (now (states .entry)) known → HoldsAreas (now (few .exit)) (now (links .exit)) (now (areas .exit)) (now (states .exit)) known) ⌝ }
 {
+    if directive_check::is_parameter(kind) {
+        return parameter_row(b, few, links, areas, states);
+    }
     match kind {
         33 => parameter_area_row(b, few, links, areas, states),
-        34..=43 => parameter_row(b, few, links, areas, states),
         50 => parameter_insert_row(b, masks, gpas, sizes, tables, n, few, links, areas, states),
         _ => false,
     }

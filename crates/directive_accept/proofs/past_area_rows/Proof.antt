@@ -1,7 +1,7 @@
 use Rattle.rows.proofs.Kit.{now, length, arith, not-false, not-true, _-_, _+_, _≤_}
 use Rattle.sheet_reader.{specs.Reading.cursorAfter, proofs.ReaderLaws.read-room}
 use Rattle.directive_accept.specs.Accepted.{AreasPassed}
-use Rattle.directive_accept.proofs.{NamedLaws.{areas-none, areas-kept, areas-next, areas-onward}, past_area_rows.Statement.statement}
+use Rattle.directive_accept.proofs.{NamedLaws.{areas-none, areas-kept, areas-next}, past_area_rows.Statement.statement}
 use Rattle.directive_accept.proofs.past_area_rows.Tie as tie
 
 abbrev Inv-loop : tie.InvT-loop
@@ -39,20 +39,11 @@ returns c = let a = c .before .before .before .before .before .before .before .b
 after-requires : tie.Need-after-requires Inv-loop μ-loop
 after-requires c κs = let r = room (c .before .before .before .before .before .before .before) in let l = c .before .before .before .before .before .before .before .before .if1 .taken in (omega arith, omega arith)
 
-past-uses-requires : tie.Need-past-uses-requires Inv-loop μ-loop
-past-uses-requires c κs =
-    let a = next (c .before .before .before .before .before) in
-    let st = c .before .before .before .before .before .before .before .before .before .before .before .before .before .before .before .before .before .before .before .before .before in
-    rw (c .before .before .before .before .after .ensures) ((st .pre .0 .0, a .read, a .first, st .pre .0 .3), a .known)
-
 loop-less : tie.Need-loop-less Inv-loop μ-loop
-loop-less c = let l = c .before .before .before .before .before .before .before .before .before .before .before .before .before .before .if1 .taken in let o = rw (c .before .before .before .before .before .after .ensures) at (c .past-uses .ensures .low) in omega arith
-
-loop-again : tie.Need-loop-again Inv-loop μ-loop
-loop-again c = areas-onward _ _ _ _ _ _ _ _ (next (c .before .before .before .before .before .before)) (rw (c .before .before .before .before .before .after .ensures) at (c .past-uses .ensures))
+loop-less c = rw (c .after .ensures) (let l = c .before .before .before .before .before .before .before .before .before .if1 .taken in omega arith)
 
 pub past-area-rows-spec : {M : Type 1} → statement M
 past-area-rows-spec =
     tie.close (tie.spec Inv-loop μ-loop
     (λ c. let p = c .before .before .before .before .before .pre in areas-none _ _ _ _ _ _ (p .0 .1) (p .0 .2) (p .1 .1)) row-from-requires
-    (λ c κs. room c) area-row-requires returns after-requires past-uses-requires loop-less loop-again (λ c. c .before .before .loop .inv))
+    (λ c κs. room c) area-row-requires returns after-requires loop-less (λ c. rw (c .after .ensures) (next (c .before))) (λ c. c .before .before .loop .inv))
