@@ -6,6 +6,7 @@ mod generate;
 mod library;
 mod order;
 mod paper;
+mod places;
 mod plain;
 mod plan;
 mod random;
@@ -36,7 +37,7 @@ struct Options {
 }
 
 const USAGE: &str = "compare [PART] [--cases N] [--seed N] [--threads N] [--backend library|paper] [FILE..]
-parts: all (samples, short, random, order, wrong) or one of these, with the samples' folder; speed; emit; one HEX; record [--check] FOLDER";
+parts: all (samples, short, random, order, wrong) or one of these, with the samples' folder; speed; against FOLDER; emit; one HEX; record [--check] FOLDER";
 
 fn options() -> Result<Options, String> {
     let mut options = Options {
@@ -95,6 +96,7 @@ fn part(o: &Options) -> Result<(), String> {
         "emit" => return samples::emit(o.seed, o.cases),
         "one" => return samples::one(o.rest.first().ok_or(USAGE)?),
         "speed" if o.rest.first().is_some_and(|word| word == "names") => return speed::names(),
+        "against" => return places::run(o.rest.first().ok_or(USAGE)?, &o.speed),
         "record" => return record::run(o.seed, o.rest.first().ok_or(USAGE)?, o.check),
         _ => {}
     }

@@ -17,6 +17,17 @@ pub struct Settings {
     pub rounds: u64,
 }
 
+impl Settings {
+    /// The cases that are measured.
+    pub fn cases(&self) -> Result<Vec<Case>, String> {
+        let cases: Vec<Case> = cases().into_iter().filter(|case| self.only.as_ref().is_none_or(|only| *only == case.name)).collect();
+        if cases.is_empty() {
+            return Err("no such case".into());
+        }
+        Ok(cases)
+    }
+}
+
 /// Who answers, and from what.
 #[derive(Clone, Copy, PartialEq, Eq)]
 enum Side {
@@ -39,7 +50,7 @@ const SIDES: [(&str, Side); 6] = [("library", Library), ("plain", Plain), ("rust
 
 /// What is asked of an image.
 #[derive(Clone, Copy, PartialEq, Eq)]
-enum Question {
+pub enum Question {
     /// the verdict, which accepts
     Accepted,
     /// the verdict, which refuses with this number
@@ -50,26 +61,25 @@ enum Question {
 use Question::{Accepted, Refused, Relocations};
 
 /// An image, and what is asked of it.
-struct Case {
-    name: String,
-    sheet: Vec<u8>,
+pub struct Case {
+    pub name: String,
+    pub sheet: Vec<u8>,
     headers: Headers,
-    question: Question,
+    pub question: Question,
 }
 
 pub fn run(calls: &Calls, settings: &Settings) -> Result<(), String> {
-    let named = |name: &str, wanted: &Option<String>| wanted.as_ref().is_none_or(|wanted| wanted == name);
-    let cases: Vec<Case> = cases().into_iter().filter(|case| named(&case.name, &settings.only)).collect();
-    let sides: Vec<Side> = SIDES.iter().filter(|(name, _)| named(name, &settings.side)).map(|(_, side)| *side).collect();
-    if cases.is_empty() || sides.is_empty() {
-        return Err("no such case, or no such side".into());
+    let wanted = |name: &str| settings.side.as_ref().is_none_or(|side| side == name);
+    let sides: Vec<Side> = SIDES.iter().filter(|(name, _)| wanted(name)).map(|(_, side)| *side).collect();
+    if sides.is_empty() {
+        return Err("no such side".into());
     }
     println!("nanoseconds of a call, the best of {} rounds; a ratio is the library's time to the one before it", settings.rounds);
     let columns = ["rows", "bytes", "library", "per row", "plain", "ratio", "rust", "ratio", "from bytes", "ratio", "alone", "ratio", "verdict", "ratio"];
     println!("{:<24}{}", "case", columns.map(|column| format!("{column:>11}")).concat());
-    for case in &cases {
+    for case in settings.cases()? {
         case.check();
-        let times = if settings.side.is_some() { 1 } else { (2048 / case.headers.kinds.len()).clamp(1, 64) };
+        let times = if settings.side.is_some() { 1 } else { case.times() };
         println!("{}", case.line(&case.best(calls, &sides, settings.rounds, times)));
     }
     Ok(())
@@ -90,7 +100,7 @@ fn measured<I, O>(input: I, each: &mut impl FnMut(I) -> O) -> O {
 }
 
 /// The time of all calls. What they return is dropped behind the measured part.
-fn time<I, O>(inputs: Vec<I>, mut each: impl FnMut(I) -> O) -> Duration {
+pub fn time<I, O>(inputs: Vec<I>, mut each: impl FnMut(I) -> O) -> Duration {
     let mut outputs = Vec::with_capacity(inputs.len());
     let start = Instant::now();
     outputs.extend(inputs.into_iter().map(|input| black_box(measured(input, &mut each))));
@@ -116,8 +126,13 @@ impl Case {
         assert_eq!(judged.numbers[0], self.number(), "{}: the Rust", self.name);
     }
 
+    /// How many calls are measured at a time.
+    pub fn times(&self) -> usize {
+        (2048 / self.headers.kinds.len()).clamp(1, 64)
+    }
+
     /// The number of the refusal, 0 where there is none.
-    fn number(&self) -> u64 {
+    pub fn number(&self) -> u64 {
         match self.question {
             Refused(number) => number,
             Accepted | Relocations => 0,

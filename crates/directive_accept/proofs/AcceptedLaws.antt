@@ -8,7 +8,7 @@ use Rattle.directive_header.{specs.declared.IgvmDirectiveHeader.IgvmDirectiveHe
 use Rattle.sheet_headers.{specs.Headers.sheetHeaders, proofs.ListLaws.directive-header}
 use Rattle.rules.{specs.Directives.{allocates, inserts, badArea, insideTable}, specs.Verdict.directiveFaults, proofs.Acceptance.directive-says}
 use Rattle.directive_check.{specs.Record.namesArea, proofs.DirectiveRecordLaws.{holds-next, names-no-area}}
-use Rattle.directive_body.specs.Sound.{Sound}
+use Rattle.directive_body.specs.Body.{BodyInOrder}
 use Rattle.directive_row.{specs.Row.{ContextsNext, PlainRow, stateOf, stateAfter}, proofs.PlainLaws.page-plain}
 use Rattle.directive_accept.specs.Accepted.{DirectivesAccepted, stateBefore, Onward, PlainPassed}
 
@@ -58,31 +58,31 @@ module _ (s : List ℕ) (k : ℕ) (d : firstDirective s ≤ k) where
   state-more area =
       rw (one-more, any-more (k - firstDirective s) (λ j. allocates area (sheetHeaders s .directives .row j)), any-more (k - firstDirective s) (λ j. inserts area (sheetHeaders s .directives .row j)), row-header)
 
-  pub row-ok : (arch : Arch) → offsetOf s k + rowLength s k ≤ length s → Sound arch (rowKind s k) (bodyOf s k) → RowOk s k
-  row-ok arch room sound =
+  pub row-ok : (arch : Arch) → offsetOf s k + rowLength s k ≤ length s → BodyInOrder arch (rowKind s k) (bodyOf s k) → RowOk s k
+  row-ok arch room alone =
       record {
-        list = sound .list ∙ sym (directive-list (headOf s) k d);
-        long = rw (body-length s k room) at (sound .long);
+        list = alone .list ∙ sym (directive-list (headOf s) k d);
+        long = rw (body-length s k room) at (alone .long);
         room = room;
-        codes = sound .codes;
+        codes = alone .codes;
       }
 
 module _ (s : List ℕ) (c : Cursor) (read : ReadTo s c) (r : SheetRow) (f : Found s (c .row) (c .at) r) (l : c .row < rowCount (headOf s)) where
-  pub read-row : firstDirective s ≤ c .row → (arch : Arch) → Sound arch (rowKind s (c .row)) (bodyOf s (c .row)) → ReadTo s (cursorAfter c r)
-  read-row d arch sound = read-after s c read r f l (row-ok s (c .row) d arch (room-row s c read r f) sound)
+  pub read-row : firstDirective s ≤ c .row → (arch : Arch) → BodyInOrder arch (rowKind s (c .row)) (bodyOf s (c .row)) → ReadTo s (cursorAfter c r)
+  read-row d arch alone = read-after s c read r f l (row-ok s (c .row) d arch (room-row s c read r f) alone)
 
-  pub accepted-more : (contexts next : List ℕ) → DirectivesAccepted s c contexts → Sound (sheetHeaders s .arch) (rowKind s (c .row)) (bodyOf s (c .row))
+  pub accepted-more : (contexts next : List ℕ) → DirectivesAccepted s c contexts → BodyInOrder (sheetHeaders s .arch) (rowKind s (c .row)) (bodyOf s (c .row))
       → badArea (before (c .row - firstDirective s) (sheetHeaders s .directives)) (directiveOf (rowKind s (c .row)) (bodyOf s (c .row))) ≡ false
       → insideTable (sheetHeaders s .initializations) (directiveOf (rowKind s (c .row)) (bodyOf s (c .row))) ≡ false
       → ContextsNext contexts (directiveOf (rowKind s (c .row)) (bodyOf s (c .row))) next
       → DirectivesAccepted s (cursorAfter c r) next
-  accepted-more contexts next a sound area table more =
+  accepted-more contexts next a alone area table more =
       let i = c .row - firstDirective s in let g = sheetHeaders s in let h = row-header s (c .row) (a .low) in
       let none : isFault (directiveFaults g i) ≡ false =
-      directive-says (g .arch) (g .initializations) (before i (g .directives)) (g .directives .row i) .1 (rw h at (sound .own), rw h at area, rw h at table)
+      directive-says (g .arch) (g .initializations) (before i (g .directives)) (g .directives .row i) .1 (rw h at (alone .own), rw h at area, rw h at table)
       in
       record {
-        read = read-row (a .low) (g .arch) sound;
+        read = read-row (a .low) (g .arch) alone;
         low = omega arith;
         good = rw (one-more s (c .row) (a .low), any-more i (λ j. isFault (directiveFaults g j)), a .good, none);
         holds = rw (one-more s (c .row) (a .low)) (holds-next contexts next (g .directives) i (rw h at more) (a .holds));
@@ -94,8 +94,8 @@ module _ (s : List ℕ) (c : Cursor) (read : ReadTo s c) (r : SheetRow) (f : Fou
   accepted-plain : (contexts next : List ℕ) → PlainRow (sheetHeaders s .arch) (rowKind s (c .row)) (bodyOf s (c .row)) contexts next
       → DirectivesAccepted s c contexts → DirectivesAccepted s (cursorAfter c r) next
   accepted-plain contexts next p a =
-      let list = p .sound .list in
-      accepted-more s c read r f l contexts next a (p .sound)
+      let list = p .alone .list in
+      accepted-more s c read r f l contexts next a (p .alone)
       (unnamed-area (rowKind s (c .row)) (bodyOf s (c .row)) list (p .unnamed) (before (c .row - firstDirective s) (sheetHeaders s .directives)))
       (unnamed-table (rowKind s (c .row)) (bodyOf s (c .row)) list (p .unnamed) (sheetHeaders s .initializations)) (p .context)
 
@@ -103,7 +103,7 @@ module _ (s : List ℕ) (c : Cursor) (read : ReadTo s c) (r : SheetRow) (f : Fou
       → (area : ℕ) → stateBefore s (c .row + 1) area ≡ stateBefore s (c .row) area
   state-plain d p area =
       state-more s (c .row) d area
-      ∙ unnamed-state (rowKind s (c .row)) (bodyOf s (c .row)) (p .sound .list) (p .unnamed) (before (c .row - firstDirective s) (sheetHeaders s .directives)) area
+      ∙ unnamed-state (rowKind s (c .row)) (bodyOf s (c .row)) (p .alone .list) (p .unnamed) (before (c .row - firstDirective s) (sheetHeaders s .directives)) area
 
   plain-more : (from : Cursor) (contexts next : List ℕ) → PlainPassed s from c contexts
       → PlainRow (sheetHeaders s .arch) (rowKind s (c .row)) (bodyOf s (c .row)) contexts next → length next ≡ 3 → PlainPassed s from (cursorAfter c r) next
@@ -129,18 +129,18 @@ plain-onward s from c d contexts a o =
 
 -- a page in order
 pub onward-page : (s : List ℕ) (c d : Cursor) → Onward s c d → d .row < rowCount (headOf s) → (r : SheetRow) → r ≡ readAt s (d .row) (d .at) → r .kind ≡ 32
-    → (body : List ℕ) → body ≡ take (r .length) (drop (d .at) s) → ((arch : Arch) → Sound arch 32 body) → Onward s c (cursorAfter d r)
-onward-page s c d o l r e page body part sound =
+    → (body : List ℕ) → body ≡ take (r .length) (drop (d .at) s) → ((arch : Arch) → BodyInOrder arch 32 body) → Onward s c (cursorAfter d r)
+onward-page s c d o l r e page body part alone =
     let f = kind-found s (d .row) (d .at) r e (omega arith) in
     let q : body ≡ bodyOf s (d .row) = part ∙ body-found s d (o .read) r f in
     let p : (contexts : List ℕ) → PlainRow (sheetHeaders s .arch) (rowKind s (d .row)) (bodyOf s (d .row)) contexts contexts =
-    λ contexts. page-plain (sheetHeaders s .arch) (rowKind s (d .row)) (bodyOf s (d .row)) contexts (rw (← f .kind) page) (rw q at (sound (sheetHeaders s .arch)))
+    λ contexts. page-plain (sheetHeaders s .arch) (rowKind s (d .row)) (bodyOf s (d .row)) contexts (rw (← f .kind) page) (rw q at (alone (sheetHeaders s .arch)))
     in
     let low = o .low in let first = o .first in
     record {
       low = omega arith;
       first = omega arith;
-      read = read-row s d (o .read) r f l first (sheetHeaders s .arch) (p [] .sound);
+      read = read-row s d (o .read) r f l first (sheetHeaders s .arch) (p [] .alone);
       accepted = λ contexts a. accepted-plain s d (o .read) r f l contexts contexts (p contexts) (o .accepted contexts a);
       areas = λ area. state-plain s d (o .read) r f l first (p []) area ∙ o .areas area;
     }
@@ -150,5 +150,5 @@ pub plain-next : (s : List ℕ) (from c : Cursor) (contexts next : List ℕ) →
     → (r : SheetRow) → r ≡ readAt s (c .row) (c .at) → (body : List ℕ) → body ≡ take (r .length) (drop (c .at) s)
     → PlainRow (sheetHeaders s .arch) (r .kind) body contexts next → length next ≡ 3 → PlainPassed s from (cursorAfter c r) next
 plain-next s from c contexts next a l r e body part row n =
-    let f = list-found s (c .row) (c .at) r e (rw (row .sound .list) (omega arith)) in
+    let f = list-found s (c .row) (c .at) r e (rw (row .alone .list) (omega arith)) in
     plain-more s c (a .rows .read) r f l from contexts next a (rw (f .kind, part ∙ body-found s c (a .rows .read) r f) at row) n

@@ -33,7 +33,7 @@ pub areas-next : (s : List ℕ) (c d : Cursor) (few links areas states fewNext l
     → NamedRow (sheetHeaders s .arch) (sheetHeaders s .initializations) (before (d .row - firstDirective s) (sheetHeaders s .directives)) (r .kind) body fewNext linksNext areasNext statesNext
     → AreasPassed s c (cursorAfter d r) fewNext linksNext areasNext statesNext
 areas-next s c d few links areas states fewNext linksNext areasNext statesNext a l r e body part row =
-    let f = list-found s (d .row) (d .at) r e (rw (row .row .sound .list) (omega arith)) in
+    let f = list-found s (d .row) (d .at) r e (rw (row .row .alone .list) (omega arith)) in
     let n : NamedRow (sheetHeaders s .arch) (sheetHeaders s .initializations) (before (d .row - firstDirective s) (sheetHeaders s .directives)) (rowKind s (d .row)) (bodyOf s (d .row)) fewNext linksNext areasNext statesNext =
     rw (f .kind, part ∙ body-found s d (a .read) r f) at row
     in
@@ -41,10 +41,10 @@ areas-next s c d few links areas states fewNext linksNext areasNext statesNext a
     record {
       low = omega arith;
       first = omega arith;
-      read = read-row s d (a .read) r f l first (sheetHeaders s .arch) (n .row .sound);
+      read = read-row s d (a .read) r f l first (sheetHeaders s .arch) (n .row .alone);
       accepted =
           λ contexts b.
-          accepted-more s d (a .read) r f l contexts contexts (a .accepted contexts b) (n .row .sound) (n .row .area) (n .table)
+          accepted-more s d (a .read) r f l contexts contexts (a .accepted contexts b) (n .row .alone) (n .row .area) (n .table)
           (contexts-stay contexts (directiveOf (rowKind s (d .row)) (bodyOf s (d .row))) (n .other));
       known = holds-same (n .row .known) (λ x. sym (state-more s (d .row) first x));
     }

@@ -1,1 +1,1 @@
-mod SoundLaws
+mod BodyLaws

@@ -4,11 +4,11 @@ ghost use mathlib.Core.Bool.{true};
 ghost use Prim.Native.Nat.{_≤_};
 ghost use lib.ListN.{length};
 ghost use Rattle.igvm_defs.specs.declared.Arch.{Arch};
-ghost use Rattle.directive_body.specs.Sound.{Sound};
+ghost use Rattle.directive_body.specs.Body.{BodyInOrder};
 
 // 32: an address on a page, a type up to 3, at most 4,096 bytes of data.
 pub fn page_data(b: &[u8]) -> bool
-    ensures { λ r. ⌜ ((arch : Arch) → r ≡ true → Sound arch 32 (now (b .entry))) ⌝ }
+    ensures { λ r. ⌜ ((arch : Arch) → r ≡ true → BodyInOrder arch 32 (now (b .entry))) ⌝ }
 {
     let n = b.len();
     if n < 18 {
@@ -22,7 +22,7 @@ pub fn page_data(b: &[u8]) -> bool
 
 // 33: its bytes on a page, and no more initial data than that.
 pub fn parameter_area(b: &[u8]) -> bool
-    ensures { λ r. ⌜ ((arch : Arch) → r ≡ true → Sound arch 33 (now (b .entry))) × (r ≡ true → 12 ≤ length (now (b .entry))) ⌝ }
+    ensures { λ r. ⌜ ((arch : Arch) → r ≡ true → BodyInOrder arch 33 (now (b .entry))) × (r ≡ true → 12 ≤ length (now (b .entry))) ⌝ }
 {
     let n = b.len();
     if n < 12 {
@@ -34,7 +34,7 @@ pub fn parameter_area(b: &[u8]) -> bool
 
 // 44: protectable 0 or 1, address and bytes on a page.
 pub fn required_memory(b: &[u8]) -> bool
-    ensures { λ r. ⌜ ((arch : Arch) → r ≡ true → Sound arch 44 (now (b .entry))) ⌝ }
+    ensures { λ r. ⌜ ((arch : Arch) → r ≡ true → BodyInOrder arch 44 (now (b .entry))) ⌝ }
 {
     if b.len() != 17 {
         return false;
@@ -46,7 +46,7 @@ pub fn required_memory(b: &[u8]) -> bool
 
 // 45: an address on a page.
 pub fn snp_vp_context(b: &[u8]) -> bool
-    ensures { λ r. ⌜ ((arch : Arch) → r ≡ true → Sound arch 45 (now (b .entry))) ⌝ }
+    ensures { λ r. ⌜ ((arch : Arch) → r ≡ true → BodyInOrder arch 45 (now (b .entry))) ⌝ }
 {
     if b.len() < 14 {
         return false;
@@ -56,7 +56,7 @@ pub fn snp_vp_context(b: &[u8]) -> bool
 
 // 51: an address on a page.
 pub fn error_range(b: &[u8]) -> bool
-    ensures { λ r. ⌜ ((arch : Arch) → r ≡ true → Sound arch 51 (now (b .entry))) ⌝ }
+    ensures { λ r. ⌜ ((arch : Arch) → r ≡ true → BodyInOrder arch 51 (now (b .entry))) ⌝ }
 {
     if b.len() != 16 {
         return false;

@@ -8,7 +8,7 @@ use Rattle.initialization_header.specs.declared.IgvmInitializationHeader.{IgvmI
 use Rattle.directive_header.{specs.declared.IgvmDirectiveHeader.IgvmDirectiveHeader, specs.Directives.directiveOf, specs.Fields.isParameter}
 use Rattle.rules.{specs.Regions.{regionPasses, tableHolds}, specs.Directives.{ownDirectiveFault, wrongContextArch, allocates, inserts, isAllocated, badArea, insideTable, isContext}}
 use Rattle.area_table.{specs.AreaTable.{HoldsAreas, stateIn}, proofs.AreaTableLaws.holds-same}
-use Rattle.directive_body.specs.Sound.{Sound}
+use Rattle.directive_body.specs.Body.{BodyInOrder}
 use Rattle.directive_row.specs.Row.{AreaRow, NamedRow, areaState, stateOf, stateAfter}
 
 or-true : (b : Bool) → (b || true) ≡ true
@@ -59,9 +59,9 @@ module _ (earlier : Rows IgvmDirectiveHeader) (b : List ℕ) (none : stateOf ear
       go true e = let q : leAt 4 b 8 ≡ x = sym (eqb-true x (leAt 4 b 8) e) in let (a, i) = none-says earlier x (rw q at none) in rw (a, i)
       go false e = rw (or-false (any (allocates x) earlier), or-false (any (inserts x) earlier))
 
-  pub area-row : (arch : Arch) (few links areas states : List ℕ) → Sound arch 33 b → HoldsAreas few links areas states (λ x. cond (eqb x (leAt 4 b 8)) 1 (stateOf earlier x))
+  pub area-row : (arch : Arch) (few links areas states : List ℕ) → BodyInOrder arch 33 b → HoldsAreas few links areas states (λ x. cond (eqb x (leAt 4 b 8)) 1 (stateOf earlier x))
       → AreaRow arch earlier 33 b few links areas states
-  area-row arch few links areas states sound h = record { sound = sound; area = area-good; known = holds-same h area-state }
+  area-row arch few links areas states alone h = record { alone = alone; area = area-good; known = holds-same h area-state }
 
 -- ---- 50
 
@@ -82,7 +82,7 @@ module _ (earlier : Rows IgvmDirectiveHeader) (b : List ℕ) (live : stateOf ear
       → HoldsAreas few links areas states (λ x. cond (eqb x (leAt 4 b 12)) 2 (stateOf earlier x)) → AreaRow arch earlier 50 b few links areas states
   unfolding kindOf spans lengthOk codesOk ownDirectiveFault directiveOf wrongContextArch isFault
   insert-area arch few links areas states l p h =
-      record { sound = record { list = refl; long = rw l; codes = refl; own = rw p }; area = insert-good; known = holds-same h insert-state }
+      record { alone = record { list = refl; long = rw l; codes = refl; own = rw p }; area = insert-good; known = holds-same h insert-state }
 
 -- no page table holds its address
 pub insert-table : (is : Rows IgvmInitializationHeader) (b : List ℕ) (t : Bool) → t ≡ any (regionPasses (tableHolds (leAt 4 b 8) (leAt 8 b 0))) is → t ≡ false
@@ -140,7 +140,7 @@ module _ (k : ℕ) (e : isParameter k ≡ true) (b : List ℕ) where
   parameter-area earlier live arch few links areas states l h =
       let p = parameter k e in
       record {
-        sound = record { list = ap (λ (t : Kind). t .list) (p .kind) ∙ parameter-list; long = rw (p .kind, l) parameter-long; codes = p .codes b; own = p .own arch b };
+        alone = record { list = ap (λ (t : Kind). t .list) (p .kind) ∙ parameter-list; long = rw (p .kind, l) parameter-long; codes = p .codes b; own = p .own arch b };
         area = rw (p .bad earlier b, live-says earlier (leAt 4 b 0) live);
         known = holds-same h (λ x. sym (parameter-state earlier x));
       }

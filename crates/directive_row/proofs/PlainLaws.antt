@@ -7,34 +7,34 @@ use Rattle.sheet.specs.Read.{codesOk}
 use Rattle.directive_header.specs.Directives.{directiveOf}
 use Rattle.rules.specs.Directives.{ownDirectiveFault, wrongContextArch, isContext}
 use Rattle.directive_check.{specs.Record.namesArea, proofs.DirectiveRecordLaws.context-set}
-use Rattle.directive_body.specs.Sound.{Sound}
+use Rattle.directive_body.specs.Body.{BodyInOrder}
 use Rattle.directive_row.specs.Row.{VbsContext, PlainRow}
 
 -- a header that is no context leaves the masks as they are
 pub plain : (arch : Arch) (kind n : ℕ) (b contexts : List ℕ) → kind ≡ n → namesArea n ≡ false → ((level bits : ℕ) → isContext level bits (directiveOf n b) ≡ false)
-    → Sound arch n b → PlainRow arch kind b contexts contexts
-plain arch kind n b contexts e names other sound =
+    → BodyInOrder arch n b → PlainRow arch kind b contexts contexts
+plain arch kind n b contexts e names other alone =
     rw e
     (record {
-      sound = sound;
+      alone = alone;
       unnamed = names;
       context = λ level bits. rw (other level bits) (sym (or-false (shares (getD contexts level 0) bits)));
     })
 
 module _ (arch : Arch) (kind : ℕ) (b contexts : List ℕ) where
-  pub page-plain : kind ≡ 32 → Sound arch 32 b → PlainRow arch kind b contexts contexts
+  pub page-plain : kind ≡ 32 → BodyInOrder arch 32 b → PlainRow arch kind b contexts contexts
   unfolding directiveOf namesArea
   page-plain e = plain arch kind 32 b contexts e refl (λ level bits. refl)
 
-  pub memory-plain : kind ≡ 44 → Sound arch 44 b → PlainRow arch kind b contexts contexts
+  pub memory-plain : kind ≡ 44 → BodyInOrder arch 44 b → PlainRow arch kind b contexts contexts
   unfolding directiveOf namesArea
   memory-plain e = plain arch kind 44 b contexts e refl (λ level bits. refl)
 
-  pub snp-plain : kind ≡ 45 → Sound arch 45 b → PlainRow arch kind b contexts contexts
+  pub snp-plain : kind ≡ 45 → BodyInOrder arch 45 b → PlainRow arch kind b contexts contexts
   unfolding directiveOf namesArea
   snp-plain e = plain arch kind 45 b contexts e refl (λ level bits. refl)
 
-  pub range-plain : kind ≡ 51 → Sound arch 51 b → PlainRow arch kind b contexts contexts
+  pub range-plain : kind ≡ 51 → BodyInOrder arch 51 b → PlainRow arch kind b contexts contexts
   unfolding directiveOf namesArea
   range-plain e = plain arch kind 51 b contexts e refl (λ level bits. refl)
 
@@ -59,7 +59,7 @@ module _ (arch : Arch) (kind : ℕ) (b contexts : List ℕ) where
   x64-plain next e x v =
       rw e
       (record {
-        sound = record { list = refl; long = le-leb 5 (length b) (v .long); codes = le-leb (byteAt b 4) 2 (v .level); own = rw x };
+        alone = record { list = refl; long = le-leb 5 (length b) (v .long); codes = le-leb (byteAt b 4) 2 (v .level); own = rw x };
         unnamed = refl;
         context = λ level bits. rw (vtl-number (byteAt b 4) (v .level)) (v .more level bits);
       })
@@ -69,7 +69,7 @@ module _ (arch : Arch) (kind : ℕ) (b contexts : List ℕ) where
   aarch64-plain next e x v =
       rw e
       (record {
-        sound = record { list = refl; long = le-leb 5 (length b) (v .long); codes = le-leb (byteAt b 4) 2 (v .level); own = rw x };
+        alone = record { list = refl; long = le-leb 5 (length b) (v .long); codes = le-leb (byteAt b 4) 2 (v .level); own = rw x };
         unnamed = refl;
         context = λ level bits. rw (vtl-number (byteAt b 4) (v .level)) (v .more level bits);
       })

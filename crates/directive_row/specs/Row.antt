@@ -14,7 +14,7 @@ use Rattle.directive_header.specs.declared.IgvmDirectiveHeader.{IgvmDirectiveHe
 use Rattle.directive_header.specs.Directives.{directiveOf}
 use Rattle.rules.specs.Directives.{allocates, inserts, badArea, insideTable, isContext}
 use Rattle.directive_check.specs.Record.{namesArea}
-use Rattle.directive_body.specs.Sound.{Sound}
+use Rattle.directive_body.specs.Body.{BodyInOrder}
 use Rattle.area_table.specs.AreaTable.{HoldsAreas}
 
 -- the masks of contexts with what a header adds
@@ -29,7 +29,7 @@ pub record VbsContext (b contexts next : List ℕ) : Type 0 where
 
 -- a row that names no area
 pub record PlainRow (arch : Arch) (kind : ℕ) (b contexts next : List ℕ) : Type 0 where
-  pub sound : Sound arch kind b
+  pub alone : BodyInOrder arch kind b
   pub unnamed : namesArea kind ≡ false
   pub context : ContextsNext contexts (directiveOf kind b) next
 
@@ -48,7 +48,7 @@ stateAfter earlier h area = areaState (any (allocates area) earlier || allocates
 
 -- a row that names an area, after these directive rows
 pub record AreaRow (arch : Arch) (earlier : Rows IgvmDirectiveHeader) (kind : ℕ) (b few links areas states : List ℕ) : Type 0 where
-  pub sound : Sound arch kind b
+  pub alone : BodyInOrder arch kind b
   pub area : badArea earlier (directiveOf kind b) ≡ false
   pub known : HoldsAreas few links areas states (stateAfter earlier (directiveOf kind b))
 

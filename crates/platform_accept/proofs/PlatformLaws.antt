@@ -41,9 +41,9 @@ sound x64 h =
     isOneBit (h .«compatibility_mask») && (eqb (h .«highest_vtl») 0 || eqb (h .«highest_vtl») 2) && leb (h .«platform_type») 6 && eqb (h .«platform_version») 1
     && (ltb 1 (h .«platform_type») || eqb (h .«shared_gpa_boundary») 0) && stands (h .«platform_type») x64
 
-pub sound-says : (a : Arch) (x64 : Bool) (h : IgvmPlatformHeader) → x64 ≡ isX64 a → sound x64 h ≡ true → isFault (ownPlatformFault a h) ≡ false
+pub in-order-says : (a : Arch) (x64 : Bool) (h : IgvmPlatformHeader) → x64 ≡ isX64 a → sound x64 h ≡ true → isFault (ownPlatformFault a h) ≡ false
 unfolding ownPlatformFault validatePlatform isPlatformType platformTypes
-sound-says a x64 h e t =
+in-order-says a x64 h e t =
     let (t5, st) = and-parts _ (stands (h .«platform_type») x64) t in
     let (t4, bound) = and-parts _ (ltb 1 (h .«platform_type») || eqb (h .«shared_gpa_boundary») 0) t5 in
     let (t3, version) = and-parts _ (eqb (h .«platform_version») 1) t4 in let (t2, low) = and-parts _ (leb (h .«platform_type») 6) t3 in

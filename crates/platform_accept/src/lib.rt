@@ -25,7 +25,7 @@ pub struct PlatformsReached {
 
 // True only where the platform that a body says has no fault by itself: 8 to 13. The numbers are those of the table of platform types: version 1,
 // boundary 0 for types 0 and 1; types 0 to 5 stand with X64, 1 and 6 with AArch64.
-fn is_sound(b: &[u8], x64: bool) -> bool
+fn is_in_order(b: &[u8], x64: bool) -> bool
     requires { ⌜ 16 ≤ length (now b) ⌝ }
     ensures { λ r. ⌜ ((a : Arch) → x64 ≡ isX64 a → r ≡ true → isFault (ownPlatformFault a (supportedPlatformOf (now (b .entry)))) ≡ false) ⌝ }
 {
@@ -76,7 +76,7 @@ pub fn accept(s: &[u8], from: Cursor, end: usize, x64: bool) -> PlatformsReached
             return PlatformsReached { at: c, cca };
         }
         let b = sheet_reader::body_from(s, c, r);
-        if !is_sound(b, x64) {
+        if !is_in_order(b, x64) {
             return PlatformsReached { at: c, cca };
         }
         let mask = le::u32_at(b, 0);

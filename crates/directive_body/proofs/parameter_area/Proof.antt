@@ -1,5 +1,5 @@
 use Rattle.rows.{proofs.Kit.{false≢true, arith, leb-true, now, length, _≤_, needs}, proofs.Bools.and-parts}
-use Rattle.directive_body.proofs.{SoundLaws.area-sound, parameter_area.Statement.statement}
+use Rattle.directive_body.proofs.{BodyLaws.area-in-order, parameter_area.Statement.statement}
 use Rattle.directive_body.proofs.parameter_area.Tie as tie
 
 returns-2 : tie.Need-returns-2
@@ -7,7 +7,7 @@ returns-2 c =
     let l : 12 ≤ length (now (c .before .before .before .before .args .b)) = omega arith in (
       λ arch e.
           let (p, d) = and-parts _ _ e in
-          area-sound arch _ l (rw (← c .before .u64-at .ensures, ← c .on-page .ensures) p) (rw (← c .before .u64-at .ensures) (leb-true _ _ d)),
+          area-in-order arch _ l (rw (← c .before .u64-at .ensures, ← c .on-page .ensures) p) (rw (← c .before .u64-at .ensures) (leb-true _ _ d)),
       λ e. l,
     )
 

@@ -8,9 +8,9 @@ returns-2 c =
     let (state, held) = c .change .ensures in
     let u = c .before .before .before .before .before .u32-at .ensures in
     let b = c .before .before .before .before .before .before in
-    let sound = b .before .parameter-area .ensures .0 in (
+    let alone = b .before .parameter-area .ensures .0 in (
       λ arch earlier h e.
-          area-row earlier _ (rw u at (table-says _ _ _ _ earlier _ 0 h (eqb-true _ 0 (sym state ∙ e)) (omega arith))) arch _ _ _ _ (sound arch (not-false _ (b .if1 .left))) (rw (e, u) at (held (stateOf earlier) h)),
+          area-row earlier _ (rw u at (table-says _ _ _ _ earlier _ 0 h (eqb-true _ 0 (sym state ∙ e)) (omega arith))) arch _ _ _ _ (alone arch (not-false _ (b .if1 .left))) (rw (e, u) at (held (stateOf earlier) h)),
       λ known e h. rw e at (held known h),
     )
 

@@ -28,7 +28,7 @@ long c =
 -- past the third test it has no fault by itself
 own : (c : tie.Else4 Inv-loop μ-loop)
     → isFault (ownPlatformFault (sheetHeaders (now (c .before .before .before .before .before .before .before .before .before .before .before .before .args .s)) .arch) (supportedPlatformOf (now (c .before .before .body-from .result)))) ≡ false
-own c = c .before .is-sound .ensures _ (c .before .before .before .before .before .before .before .before .before .before .before .before .pre .1) (not-false _ (c .if4 .left))
+own c = c .before .is-in-order .ensures _ (c .before .before .before .before .before .before .before .before .before .before .before .before .pre .1) (not-false _ (c .if4 .left))
 
 row-from-requires : tie.Need-row-from-requires Inv-loop μ-loop
 row-from-requires c κs =

@@ -12,7 +12,7 @@ use Rattle.directive_header.specs.Directives.{directiveOf}
 use Rattle.rules.specs.Directives.{ownDirectiveFault}
 
 -- by itself: length, codes, and what the rules ask of the header alone
-pub record Sound (arch : Arch) (kind : ℕ) (b : List ℕ) : Type 0 where
+pub record BodyInOrder (arch : Arch) (kind : ℕ) (b : List ℕ) : Type 0 where
   pub list : kindOf kind .list ≡ directiveList
   pub long : lengthOk (kindOf kind) (length b) ≡ true
   pub codes : codesOk kind b ≡ true

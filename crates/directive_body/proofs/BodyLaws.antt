@@ -6,12 +6,12 @@ use Rattle.addresses.specs.Addresses.{isMultiple, onPage}
 use Rattle.sheet.specs.Read.{codesOk}
 use Rattle.directive_header.specs.Directives.{directiveOf}
 use Rattle.rules.specs.Directives.{ownDirectiveFault, wrongContextArch}
-use Rattle.directive_body.specs.Sound.{Sound}
+use Rattle.directive_body.specs.Body.{BodyInOrder}
 
 module _ (arch : Arch) (b : List ℕ) where
-  pub page-sound : 18 ≤ length b → length b ≤ 4114 → leAt 8 b 0 % 4096 + leAt 2 b 16 / 4 ≡ 0 → Sound arch 32 b
+  pub page-in-order : 18 ≤ length b → length b ≤ 4114 → leAt 8 b 0 % 4096 + leAt 2 b 16 / 4 ≡ 0 → BodyInOrder arch 32 b
   unfolding kindOf spans lengthOk codesOk ownDirectiveFault directiveOf wrongContextArch isFault isMultiple
-  page-sound l h e =
+  page-in-order l h e =
       let p : leAt 8 b 0 % 4096 ≡ 0 = omega arith in
       let t : leAt 2 b 16 ≤ 3 = omega arith in
       record {
@@ -21,19 +21,19 @@ module _ (arch : Arch) (b : List ℕ) where
         own = rw (p, le-ltb 3 (leAt 2 b 16) t, le-ltb 4096 (length b - 18) (omega arith));
       }
 
-  pub area-sound : 12 ≤ length b → onPage (leAt 8 b 0) ≡ true → length b - 12 ≤ leAt 8 b 0 → Sound arch 33 b
+  pub area-in-order : 12 ≤ length b → onPage (leAt 8 b 0) ≡ true → length b - 12 ≤ leAt 8 b 0 → BodyInOrder arch 33 b
   unfolding kindOf spans lengthOk codesOk ownDirectiveFault directiveOf wrongContextArch isFault
-  area-sound l p h =
+  area-in-order l p h =
       record { list = refl; long = le-leb 12 (length b) l; codes = refl; own = rw (p, le-ltb (leAt 8 b 0) (length b - 12) h) }
 
-  pub memory-sound : length b ≡ 17 → leb (byteAt b 16) 1 ≡ true → onPage (leAt 8 b 0) ≡ true → onPage (leAt 4 b 12) ≡ true → Sound arch 44 b
+  pub memory-in-order : length b ≡ 17 → leb (byteAt b 16) 1 ≡ true → onPage (leAt 8 b 0) ≡ true → onPage (leAt 4 b 12) ≡ true → BodyInOrder arch 44 b
   unfolding kindOf spans lengthOk codesOk ownDirectiveFault directiveOf wrongContextArch isFault
-  memory-sound l c p q = record { list = refl; long = rw l; codes = c; own = rw (p, q) }
+  memory-in-order l c p q = record { list = refl; long = rw l; codes = c; own = rw (p, q) }
 
-  pub snp-sound : 14 ≤ length b → onPage (leAt 8 b 0) ≡ true → Sound arch 45 b
+  pub snp-in-order : 14 ≤ length b → onPage (leAt 8 b 0) ≡ true → BodyInOrder arch 45 b
   unfolding kindOf spans lengthOk codesOk ownDirectiveFault directiveOf wrongContextArch isFault
-  snp-sound l p = record { list = refl; long = le-leb 14 (length b) l; codes = refl; own = rw p }
+  snp-in-order l p = record { list = refl; long = le-leb 14 (length b) l; codes = refl; own = rw p }
 
-  pub range-sound : length b ≡ 16 → onPage (leAt 8 b 0) ≡ true → Sound arch 51 b
+  pub range-in-order : length b ≡ 16 → onPage (leAt 8 b 0) ≡ true → BodyInOrder arch 51 b
   unfolding kindOf spans lengthOk codesOk ownDirectiveFault directiveOf wrongContextArch isFault
-  range-sound l p = record { list = refl; long = rw l; codes = refl; own = rw p }
+  range-in-order l p = record { list = refl; long = rw l; codes = refl; own = rw p }

@@ -1,0 +1,89 @@
+//! The library beside another build of it, each at four places in memory. README.md says what is measured.
+
+use crate::speed::{time, Case, Question, Settings};
+use std::ffi::{c_char, c_int, c_void, CString};
+use std::hint::black_box;
+
+/// How many bytes the code is moved by, at each place. A function starts at a multiple of 16, a line of the cache at one of 64.
+const PLACES: [u32; 4] = [0, 16, 32, 48];
+
+/// The builds, by the names of their files.
+const BUILDS: [&str; 2] = ["other", "library"];
+
+extern "C" {
+    fn dlopen(path: *const c_char, flags: c_int) -> *mut c_void;
+    fn dlsym(handle: *mut c_void, name: *const c_char) -> *mut c_void;
+}
+
+const RTLD_NOW: c_int = 2;
+
+/// The two calls that are measured, of one build at one place.
+struct Placed {
+    verdict: unsafe extern "C" fn(*const u8, usize, u32) -> u64,
+    relocations: unsafe extern "C" fn(*const u8, usize, u32, *mut u8, usize, u32) -> u64,
+}
+
+impl Placed {
+    fn open(folder: &str, build: &str, place: u32) -> Result<Placed, String> {
+        let path = format!("{folder}/{build}-{place}.so");
+        let named = |text: &str| CString::new(text).map_err(|e| format!("{text}: {e}"));
+        // SAFETY: `compare/run against` has made the file of an archive of the library, which has both functions, as include/igvm.h declares them.
+        unsafe {
+            let handle = dlopen(named(&path)?.as_ptr(), RTLD_NOW);
+            if handle.is_null() {
+                return Err(format!("{path} can't be loaded"));
+            }
+            let verdict = dlsym(handle, c"igvm_verdict".as_ptr());
+            let relocations = dlsym(handle, c"igvm_relocations".as_ptr());
+            if verdict.is_null() || relocations.is_null() {
+                return Err(format!("{path} does not have the calls"));
+            }
+            Ok(Placed { verdict: std::mem::transmute(verdict), relocations: std::mem::transmute(relocations) })
+        }
+    }
+
+    /// SAFETY: pointers and lengths are those of live slices.
+    fn ask(&self, case: &Case, lent: &mut [u8]) -> u64 {
+        let sheet = black_box(&case.sheet[..]);
+        match case.question {
+            Question::Relocations => unsafe { (self.relocations)(sheet.as_ptr(), sheet.len(), 1, lent.as_mut_ptr(), lent.len(), 0) },
+            _ => unsafe { (self.verdict)(sheet.as_ptr(), sheet.len(), 0) },
+        }
+    }
+
+    /// Nanoseconds of a call, after one that is not measured.
+    fn nanoseconds(&self, case: &Case, times: usize) -> f64 {
+        let mut lent = [0; 64 * 64];
+        self.ask(case, &mut lent);
+        let number = case.number();
+        time(vec![(); times], |()| assert_eq!(self.ask(case, &mut lent), number)).as_nanos() as f64 / times as f64
+    }
+}
+
+/// The least time of a call of each build at each place. All take turns.
+fn best(case: &Case, builds: &[Vec<Placed>], rounds: u64) -> Vec<Vec<f64>> {
+    let mut best = vec![vec![f64::INFINITY; PLACES.len()]; builds.len()];
+    for _ in 0..rounds {
+        for place in 0..PLACES.len() {
+            for (least, build) in best.iter_mut().zip(builds) {
+                least[place] = least[place].min(build[place].nanoseconds(case, case.times()));
+            }
+        }
+    }
+    best
+}
+
+pub fn run(folder: &str, settings: &Settings) -> Result<(), String> {
+    let open = |build: &&str| PLACES.iter().map(|&place| Placed::open(folder, build, place)).collect();
+    let builds = BUILDS.iter().map(open).collect::<Result<Vec<Vec<Placed>>, String>>()?;
+    println!("nanoseconds of a call, the best of {} rounds, in the mean of four places and at each; the ratio is the library's mean to the other's", settings.rounds);
+    println!("{:<24}{:>9}{:>9}{:>9}   {:<28}{:<28}", "case", BUILDS[0], BUILDS[1], "ratio", BUILDS[0], BUILDS[1]);
+    for case in settings.cases()? {
+        let best = best(&case, &builds, settings.rounds);
+        let mean = |least: &[f64]| least.iter().sum::<f64>() / least.len() as f64;
+        let each = |least: &[f64]| least.iter().map(|ns| format!("{ns:<7.0}")).collect::<String>();
+        let (other, library) = (mean(&best[0]), mean(&best[1]));
+        println!("{:<24}{other:>9.0}{library:>9.0}{:>9.3}   {:<28}{:<28}", case.name, library / other, each(&best[0]), each(&best[1]));
+    }
+    Ok(())
+}
