@@ -7,6 +7,9 @@ use std::hint::black_box;
 /// How many bytes the code is moved by, at each place. A function starts at a multiple of 16, a line of the cache at one of 64.
 const PLACES: [u32; 4] = [0, 16, 32, 48];
 
+/// How many depths of the stack the rounds go through, one behind the other: with their frames some 4,096 bytes.
+const DEPTHS: u64 = 32;
+
 /// The builds, by the names of their files.
 const BUILDS: [&str; 2] = ["other", "library"];
 
@@ -60,15 +63,29 @@ impl Placed {
     }
 }
 
+/// The work, so many frames down the stack.
+#[inline(never)]
+fn deeper(depth: u64, work: &mut dyn FnMut()) {
+    let frame = black_box([0u64; 8]);
+    if depth == 0 {
+        work()
+    } else {
+        deeper(depth - 1, work)
+    }
+    black_box(&frame);
+}
+
 /// The least time of a call of each build at each place. All take turns.
 fn best(case: &Case, builds: &[Vec<Placed>], rounds: u64) -> Vec<Vec<f64>> {
     let mut best = vec![vec![f64::INFINITY; PLACES.len()]; builds.len()];
-    for _ in 0..rounds {
-        for place in 0..PLACES.len() {
-            for (least, build) in best.iter_mut().zip(builds) {
-                least[place] = least[place].min(build[place].nanoseconds(case, case.times()));
+    for round in 0..rounds {
+        deeper(round % DEPTHS, &mut || {
+            for place in 0..PLACES.len() {
+                for (least, build) in best.iter_mut().zip(builds) {
+                    least[place] = least[place].min(build[place].nanoseconds(case, case.times()));
+                }
             }
-        }
+        });
     }
     best
 }

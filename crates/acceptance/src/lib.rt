@@ -44,19 +44,18 @@ fn accept_directives<'a>(
     ensures { λ r. ⌜ ((numbers : List ℕ) → HoldsRows (headOf (now (s .entry)) .platforms) numbers (regionsIn (now (masks .entry)) (now (gpas .entry)) (now (sizes .entry)) (now (vps .entry)) (now (vtls .entry)) (now (tables .entry)) n) (sheetHeaders (now (s .entry)) .initializations) → r .accepted ≡ true → RowsAccepted (now (s .entry)) (regionsIn (now (masks .entry)) (now (gpas .entry)) (now (sizes .entry)) (now (vps .entry)) (now (vtls .entry)) (now (tables .entry)) n) numbers (now (contexts .exit))) ⌝ }
 {
     let at = directive_accept::accept(s, from, end, x64, masks, gpas, sizes, tables, n, contexts);
-    if at.row < end {
+    if (at.row < end) | (at.at < s.len()) {
         return Reached {
             at,
             count: n,
             accepted: false,
         };
     }
-    let whole = s.len() <= at.at;
     let lacks = contexts::any_lacks(masks, vps, vtls, n, contexts);
     Reached {
         at,
         count: n,
-        accepted: whole & !lacks,
+        accepted: !lacks,
     }
 }
 

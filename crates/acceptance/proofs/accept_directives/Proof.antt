@@ -1,4 +1,4 @@
-use Rattle.rows.{proofs.Bools.and-parts, proofs.Kit.{leb-true, not-true, arith, false≢true, refl, sym, _∙_}}
+use Rattle.rows.{proofs.Bools.or-false-parts, proofs.Kit.{_≤_, now, length, ltb-false, not-true, arith, false≢true, refl, sym, _∙_}}
 use Rattle.directive_pass.proofs.DirectivePass.{holds-tables}
 use Rattle.acceptance.proofs.{AcceptanceLaws.{table-room, all-none}, accept_directives.Statement.statement}
 use Rattle.acceptance.proofs.accept_directives.Tie as tie
@@ -14,18 +14,21 @@ any-lacks-requires c κs =
     let n = c .before .before .before .before .before .before .before .before .before .before .before .before .before .pre .1 .0 in
     (n .0, n .3, n .4, c .before .before .before .before .accept .ensures .1)
 
+-- the place is behind the last row and the last byte
+behind : (c : tie.Else1) → let a = c .before .before .before .before .before .before .before .before .before .before .before .before .args in let at = c .before .before .before .accept .result in
+    (a .end ≤ at .row) × (length (now (a .s)) ≤ at .at)
+behind c = let (r, b) = or-false-parts _ _ (c .if1 .left) in (ltb-false _ _ r, ltb-false _ _ b)
+
 returns-2 : tie.Need-returns-2
 returns-2 c =
     let p = c .before .before .before .before .before .before .before .before .before .before .before .before .before .before .pre in
     let a = c .before .before .before .before .before .accept .ensures .0 in
-    let l = c .before .before .before .if1 .left in (
+    let (l, whole) = behind (c .before .before) in (
       (a, refl),
-      λ numbers rows e.
-          let (whole, lacks) = and-parts _ _ e in
-          all-none _ _ _ _ _ _ _ _ numbers _ _ _ (p .1 .1 .0) a (omega (arith, p .0 .1)) (leb-true _ _ whole) (sym (c .any-lacks .ensures) ∙ not-true _ lacks) rows,
+      λ numbers held e. all-none _ _ _ _ _ _ _ _ numbers _ _ _ (p .1 .1 .0) a (omega (arith, p .0 .1)) whole (sym (c .any-lacks .ensures) ∙ not-true _ e) held,
     )
 
 pub accept-directives-spec : {M : Type 1} → statement M
 accept-directives-spec =
-    tie.close (tie.spec accept-requires (λ c. ((c .before .before .accept .ensures .0, refl), λ numbers rows e. absurd (false≢true e)))
+    tie.close (tie.spec accept-requires (λ c. ((c .before .before .before .accept .ensures .0, refl), λ numbers rows e. absurd (false≢true e)))
     any-lacks-requires returns-2)
