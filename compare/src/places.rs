@@ -1,6 +1,6 @@
 //! The library beside another build of it, each at four places in memory. README.md says what is measured.
 
-use crate::speed::{time, Case, Question, Settings};
+use crate::speed::{time, Case, Question, Settings, Side};
 use std::ffi::{c_char, c_int, c_void, CString};
 use std::hint::black_box;
 
@@ -75,32 +75,59 @@ fn deeper(depth: u64, work: &mut dyn FnMut()) {
     black_box(&frame);
 }
 
-/// The least time of a call of each build at each place. All take turns.
-fn best(case: &Case, builds: &[Vec<Placed>], rounds: u64) -> Vec<Vec<f64>> {
-    let mut best = vec![vec![f64::INFINITY; PLACES.len()]; builds.len()];
-    for round in 0..rounds {
-        deeper(round % DEPTHS, &mut || {
-            for place in 0..PLACES.len() {
-                for (least, build) in best.iter_mut().zip(builds) {
-                    least[place] = least[place].min(build[place].nanoseconds(case, case.times()));
+/// Plain Rust and the Rust, beside the builds.
+const PEERS: [Side; 2] = [Side::Plain, Side::Ready];
+
+/// The least times of a call, in nanoseconds.
+struct Best {
+    /// of each build at each place
+    builds: Vec<Vec<f64>>,
+    /// of each peer; none where it has no answer
+    peers: Vec<Option<f64>>,
+}
+
+impl Best {
+    /// All take turns.
+    fn new(case: &Case, builds: &[Vec<Placed>], rounds: u64) -> Best {
+        let has = |side: &Side| case.has(*side).then_some(f64::INFINITY);
+        let mut best = Best { builds: vec![vec![f64::INFINITY; PLACES.len()]; builds.len()], peers: PEERS.iter().map(has).collect() };
+        let times = case.times();
+        for round in 0..rounds {
+            deeper(round % DEPTHS, &mut || {
+                for place in 0..PLACES.len() {
+                    for (least, build) in best.builds.iter_mut().zip(builds) {
+                        least[place] = least[place].min(build[place].nanoseconds(case, times));
+                    }
                 }
-            }
-        });
+                for (least, side) in best.peers.iter_mut().zip(PEERS) {
+                    *least = least.map(|least| least.min(case.peer(side, times).as_nanos() as f64 / times as f64));
+                }
+            });
+        }
+        best
     }
-    best
+
+    fn line(&self, name: &str) -> String {
+        let means: Vec<f64> = self.builds.iter().map(|least| least.iter().sum::<f64>() / least.len() as f64).collect();
+        let (other, library) = (means[0], means[1]);
+        let mut line = format!("{name:<24}{other:>9.0}{library:>9.0}{:>8.3}", library / other);
+        for peer in &self.peers {
+            line += &peer.map_or(format!("{:>9}{:>8}", "-", "-"), |peer| format!("{peer:>9.0}{:>8.2}", library / peer));
+        }
+        let each = |least: &Vec<f64>| least.iter().map(|ns| format!("{ns:>7.0}")).collect::<String>();
+        line + "  " + &self.builds.iter().map(each).collect::<Vec<String>>().join("  ")
+    }
 }
 
 pub fn run(folder: &str, settings: &Settings) -> Result<(), String> {
     let open = |build: &&str| PLACES.iter().map(|&place| Placed::open(folder, build, place)).collect();
     let builds = BUILDS.iter().map(open).collect::<Result<Vec<Vec<Placed>>, String>>()?;
-    println!("nanoseconds of a call, the best of {} rounds, in the mean of four places and at each; the ratio is the library's mean to the other's", settings.rounds);
-    println!("{:<24}{:>9}{:>9}{:>9}   {:<28}{:<28}", "case", BUILDS[0], BUILDS[1], "ratio", BUILDS[0], BUILDS[1]);
+    println!("nanoseconds of a call, the best of {} rounds; of a build the mean of four places, and each of them", settings.rounds);
+    let columns =
+        [("other", 9), ("library", 9), ("ratio", 8), ("plain", 9), ("ratio", 8), ("rust", 9), ("ratio", 8), ("other", 30), ("library", 30)];
+    println!("{:<24}{}", "case", columns.map(|(column, width)| format!("{column:>width$}")).concat());
     for case in settings.cases()? {
-        let best = best(&case, &builds, settings.rounds);
-        let mean = |least: &[f64]| least.iter().sum::<f64>() / least.len() as f64;
-        let each = |least: &[f64]| least.iter().map(|ns| format!("{ns:<7.0}")).collect::<String>();
-        let (other, library) = (mean(&best[0]), mean(&best[1]));
-        println!("{:<24}{other:>9.0}{library:>9.0}{:>9.3}   {:<28}{:<28}", case.name, library / other, each(&best[0]), each(&best[1]));
+        println!("{}", Best::new(&case, &builds, settings.rounds).line(&case.name));
     }
     Ok(())
 }

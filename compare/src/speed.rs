@@ -30,7 +30,7 @@ impl Settings {
 
 /// Who answers, and from what.
 #[derive(Clone, Copy, PartialEq, Eq)]
-enum Side {
+pub enum Side {
     /// the call, from the sheet's bytes
     Library,
     /// plain Rust, from the sheet's bytes
@@ -140,7 +140,7 @@ impl Case {
     }
 
     /// `relocations` alone, and the verdict before it, are no sides of a verdict, and plain Rust has no region list.
-    fn has(&self, side: Side) -> bool {
+    pub fn has(&self, side: Side) -> bool {
         match side {
             Alone | Verdict => self.question == Relocations,
             Plain => self.question != Relocations,
@@ -183,6 +183,13 @@ impl Case {
                 (calls.verdict)(sheet, 0);
                 time(vec![(); times], |()| assert_eq!((calls.verdict)(black_box(sheet), 0), self.number()))
             }
+            Plain | Ready | Bytes | Alone => self.peer(side, times),
+        }
+    }
+
+    /// So many calls of a side that is not the library.
+    pub fn peer(&self, side: Side, times: usize) -> Duration {
+        match side {
             Plain => {
                 let _ = self.plain();
                 time(vec![(); times], |()| self.plain())
@@ -193,6 +200,7 @@ impl Case {
                 let file = new_file(self.headers.clone()).expect("an accepted image");
                 time(vec![(); times], |()| file.relocations(black_box(1)))
             }
+            Library | Verdict => unreachable!("the library has a call of its own"),
         }
     }
 
