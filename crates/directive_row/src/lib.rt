@@ -188,6 +188,7 @@ pub fn area_row<'a>(
     ensures { λ r. ⌜ ((arch : Arch) (is : Rows IgvmInitializationHeader) (earlier : Rows IgvmDirectiveHeader) → HoldsTables (now (masks .entry)) (now (gpas .entry)) (now (sizes .entry)) (now (tables .entry)) n is → HoldsAreas (now (few .entry)) (now (links .entry)) (now (areas .entry)) (now (states .entry)) (stateOf earlier) → r ≡ true → NamedRow arch is earlier kind (now (b .entry)) (now (few .exit)) (now (links .exit)) (now (areas .exit)) (now (states .exit))) ⌝ }
     ensures { λ r. ⌜ ((known : ℕ → ℕ) → r ≡ false → HoldsAreas (now (few .entry)) (now (links .entry)) (now (areas .entry)) (now (states .entry)) known → HoldsAreas (now (few .exit)) (now (links .exit)) (now (areas .exit)) (now (states .exit)) known) ⌝ }
 {
+    // Parameters first: they are the most frequent of these rows.
     if directive_check::is_parameter(kind) {
         return parameter_row(b, few, links, areas, states);
     }
