@@ -8,7 +8,7 @@ use Rattle.igvm_defs.specs.Refusals.{refusal}
 use Rattle.sheet.specs.Head.{Limits}
 use Rattle.answers.specs.declared.Verdict.{Verdict}
 use Rattle.answers.specs.Verdict.{verdictOf}
-use Rattle.admission.specs.Line.{lineOf}
+use Rattle.line.specs.Line.{lineOf}
 
 -- the verdict on an input: above 65,536 bytes it is 3, before all else
 unfoldable pub admitOf : Limits → List ℕ → Verdict

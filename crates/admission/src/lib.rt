@@ -2,14 +2,11 @@
 ghost use mathlib.Core.Path.{_≡_};
 ghost use Prim.Native.Nat.{_≤_};
 ghost use Rattle.sheet.specs.Head.{limits};
-ghost use Rattle.admission.specs.Text.{textOf};
+ghost use Rattle.line.specs.Text.{textOf};
 ghost use Rattle.admission.specs.Admission.{admitOf, admitLine};
-
-mod line;
-
-use crate::line::Line;
 use answers::Verdict;
 use igvm_defs::Refusal;
+use line::Line;
 
 // The most bytes that are taken.
 const INPUT_BYTES: usize = 65536;

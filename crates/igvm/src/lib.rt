@@ -6,8 +6,6 @@ ghost use Rattle.answers.specs.Verdict.{verdictOf};
 ghost use Rattle.answers.specs.Relocations.{relocationsOf, wordsAfter, baseCheckOf, containsOf};
 ghost use Rattle.answers.specs.Numbers.{numberOf, verdictNumbers, relocationNumbers, checkNumbers};
 
-mod numbers;
-
 // 0 number, 1 row, 2 detail, 3 platform rows, 4 initialization rows, 5 directive rows.
 #[no_mangle]
 pub extern "C" fn igvm_verdict(sheet: &[u8], which: u32) -> u64

@@ -112,7 +112,7 @@ pub fn relocations(s: &[u8], given: u32, words: &mut [u8]) -> Relocations
     if refusal.is_refusal() {
         return refused_relocations(refusal);
     }
-    let put = regions::put_regions(s, SheetHead::new(s), given, words);
+    let put = region_words::put_regions(s, SheetHead::new(s), given, words);
     found(put.count, put.table)
 }
 
