@@ -2,6 +2,7 @@
 // numbers, and of a region list the lent bytes afterwards.
 ghost use Prim.Native.Nat.{_≤_};
 ghost use lib.ListN.{length};
+use libc::STDOUT_FILENO;
 use stored_calls::Call;
 
 fn ask(c: Call, sheet: &[u8], lent: &mut [u8], which: u32) -> u64 {
@@ -14,14 +15,49 @@ fn ask(c: Call, sheet: &[u8], lent: &mut [u8], which: u32) -> u64 {
     }
 }
 
+fn write(text: &[u8]) {
+    io::write_all(STDOUT_FILENO, text);
+}
+
+// A number of the answer.
+fn write_found(n: u64) {
+    write(b" ");
+    io::print_decimal(STDOUT_FILENO, n);
+}
+
+fn write_byte(b: u8) {
+    io::print_hex(STDOUT_FILENO, b as u64, 2);
+}
+
+// Groups of eight bytes.
+fn write_bytes(b: &[u8]) {
+    let mut i = 0;
+    while i < b.len() {
+        if i % 8 == 0 {
+            write(b" ");
+        }
+        write_byte(b[i]);
+        i += 1;
+    }
+}
+
+// The rest of the line, after its numbers: of a region list the lent bytes.
+fn finish(c: Call, lent: &[u8]) {
+    if c.code == 1 {
+        write(b" bytes");
+        write_bytes(lent);
+    }
+    write(b"\n");
+}
+
 fn write_answer(c: Call, sheet: &[u8], lent: &mut [u8]) {
     let n = c.numbers;
     let mut which = 0;
     while which < n {
-        stored_calls::write_found(ask(c, sheet, lent, which));
+        write_found(ask(c, sheet, lent, which));
         which += 1;
     }
-    stored_calls::finish(c, lent);
+    finish(c, lent);
 }
 
 fn replay_record(one: &[u8])

@@ -1,4 +1,4 @@
-// Calls that a file stores, one record after another: reading a record, and writing the line of its call. A record is a head of 32 bytes and a sheet.
+// Calls that a file stores, one record after another: a record is read, and its line written up to the numbers of the answer. A record is a head of 32 bytes and a sheet.
 ghost use Prim.Native.Nat.{_+_, _≤_};
 ghost use lib.ListN.{length};
 ghost use Rattle.io.specs.Counts.{Counts};
@@ -38,27 +38,6 @@ fn write(text: &[u8]) {
 fn write_number(words: &[u8], n: u64) {
     write(words);
     io::print_decimal(STDOUT_FILENO, n);
-}
-
-// A number of the answer.
-pub fn write_found(n: u64) {
-    write_number(b" ", n);
-}
-
-fn write_byte(b: u8) {
-    io::print_hex(STDOUT_FILENO, b as u64, 2);
-}
-
-// Groups of eight bytes.
-fn write_bytes(b: &[u8]) {
-    let mut i = 0;
-    while i < b.len() {
-        if i % 8 == 0 {
-            write(b" ");
-        }
-        write_byte(b[i]);
-        i += 1;
-    }
 }
 
 // What lent bytes hold before a call.
@@ -136,15 +115,6 @@ pub fn start(one: &[u8], space: &mut [u8]) -> Call
     }
     write(b" lends more than 4224 bytes");
     NO_CALL
-}
-
-// The rest of the line, after its numbers: of a region list the lent bytes.
-pub fn finish(c: Call, lent: &[u8]) {
-    if c.code == 1 {
-        write(b" bytes");
-        write_bytes(lent);
-    }
-    write(b"\n");
 }
 
 // The length of the record that starts at `at`; 0, and a line that says so, if it is not whole.

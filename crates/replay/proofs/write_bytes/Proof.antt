@@ -1,7 +1,7 @@
 -- `write_bytes` is safe and ends.
 use Rattle.rows.proofs.Kit.{_-_, length, needs}
-use Rattle.stored_calls.proofs.write_bytes.Statement.{statement}
-use Rattle.stored_calls.proofs.write_bytes.Tie as tie
+use Rattle.replay.proofs.write_bytes.Statement.{statement}
+use Rattle.replay.proofs.write_bytes.Tie as tie
 
 abbrev Inv-loop : tie.InvT-loop
 Inv-loop b i₀ t3 i = Unit {0}
