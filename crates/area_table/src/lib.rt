@@ -25,6 +25,15 @@ const COUNT: usize = 1024;
 // How often a walk looks at a place: at the root, and once after each bit.
 const LOOKS: u32 = 33;
 
+// Of an area of which nothing is known.
+pub const NOTHING: u8 = 0;
+
+// Of an area that is allocated.
+pub const ALLOCATED: u8 = 1;
+
+// Of an area that was inserted.
+pub const INSERTED: u8 = 2;
+
 // Of an area of which the table can't tell.
 pub const UNTOLD: u8 = 3;
 
@@ -71,7 +80,7 @@ fn state_at(links: &[u16; LINKS], states: &[u8; NODES], p: usize) -> u8
         return states[k];
     }
     if links[COUNT] < LAST {
-        return 0;
+        return NOTHING;
     }
     UNTOLD
 }

@@ -82,7 +82,15 @@ fn parameter_area_row(
         return false;
     }
     let area = le::u32_at(b, 8);
-    area_table::change(few, links, areas, states, area, 0, 1)
+    area_table::change(
+        few,
+        links,
+        areas,
+        states,
+        area,
+        area_table::NOTHING,
+        area_table::ALLOCATED,
+    )
 }
 
 // 34 to 43: an area that is allocated.
@@ -98,7 +106,7 @@ fn parameter_row(
     if b.len() != 8 {
         return false;
     }
-    area_table::state_of(few, links, areas, states, le::u32_at(b, 0)) == 1
+    area_table::state_of(few, links, areas, states, le::u32_at(b, 0)) == area_table::ALLOCATED
 }
 
 // 50: an address on a page, an area that is allocated.
@@ -119,7 +127,15 @@ fn insert_row(
     if !addresses::on_page(le::u64_at(b, 0)) {
         return false;
     }
-    area_table::change(few, links, areas, states, area, 1, 2)
+    area_table::change(
+        few,
+        links,
+        areas,
+        states,
+        area,
+        area_table::ALLOCATED,
+        area_table::INSERTED,
+    )
 }
 
 // 50: no page table of the first n regions holds the address.
