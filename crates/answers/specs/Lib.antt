@@ -1,3 +1,4 @@
 pub mod Verdict
 pub mod Relocations
 pub mod Numbers
+pub mod Region

@@ -3,7 +3,7 @@ use native.Mathlib.Nat.{mul-comm, mod-eq-of-lt}
 use lib.Arith.{mod-mul}
 use Rattle.rows.{proofs.Kit.{ℕ, zero, suc, _+_, _-_, _*_, _/_, _%_, _^_, _≤_, _<_, add-zero, zero-add, not-suc-le-zero, le-of-suc-le-suc, pow-succ', decLt, arith, _≡_, refl, sym, ap, _∙_, Bool, true, cond, _&&_, and-false, List, [], _∷_, eqb, leb, ltb, length, getD, set, List·getD-eq-default, eqb-true, leb-true, ltb-true, eq-eqb, ne-eqb, le-leb, lt-leb, lt-ltb, le-ltb}, specs.Below.sumBelow, proofs.Bools.{same-test, and-parts, cond-same}, proofs.BelowLaws.sum-cong}
 use Rattle.le.specs.Le.{byteAt, leAt, byteOf}
-use Rattle.lent.specs.Lent.{eachFrom, each, bytesPut, wordPut, rowPut, rowsPut}
+use Rattle.lent.specs.Lent.{eachFrom, each, bytesPut, wordPut, rowPut, rowsPut, numbersPut}
 
 -- ---- each byte from place i on
 
@@ -89,6 +89,11 @@ put-set k v b =
     (λ t. let e = eqb-true j k t in in-range k (k + 1) j (omega arith) (omega arith))
     (λ t. let (p, q) = range-in k (k + 1) j t in eq-eqb j k (omega arith))))
 
+-- one byte more: a turn of the loop of `put_bytes`
+pub byte-more : (i : ℕ) (f : ℕ → ℕ) (b : List ℕ) → set (bytesPut 0 i f b) i (f i) ≡ bytesPut 0 (i + 1) f b
+byte-more i f b =
+    put-set i (f i) _ ∙ put-join 0 i (i + 1) f (λ _. f i) b (omega arith) (omega arith) (λ j l h. let z : j ≡ i = omega arith in rw z)
+
 pub put-at : (a e : ℕ) (f : ℕ → ℕ) (b : List ℕ) (j : ℕ) → a ≤ j → j < e → j < length b → getD (bytesPut a e f b) j 0 ≡ f j
 unfolding bytesPut
 put-at a e f b j l k h = rw (from-at 0 _ b j h, zero-add, in-range a e j l k)
@@ -119,6 +124,49 @@ pub word-length : (w v : ℕ) (b : List ℕ) → length (wordPut w v b) ≡ leng
 unfolding wordPut
 word-length w v b = put-length _ _ _ b
 
+-- a word put behind bytes that were put
+word-joins : (a w v : ℕ) (f : ℕ → ℕ) (b : List ℕ) → a ≤ 8 * w → ((j : ℕ) → 8 * w ≤ j → j < 8 * w + 8 → byteOf (j - 8 * w) v ≡ f j)
+    → wordPut w v (bytesPut a (8 * w) f b) ≡ bytesPut a (8 * w + 8) f b
+unfolding wordPut
+word-joins a w v f b l h = put-join a (8 * w) (8 * w + 8) f _ b l (omega arith) h
+
+-- ---- numbers
+
+-- the bytes with the first k numbers
+unfoldable pub firstPut : ℕ → List ℕ → List ℕ → List ℕ
+firstPut k numbers b = bytesPut 0 (8 * k) (λ j. byteOf (j % 8) (getD numbers (j / 8) 0)) b
+
+pub first-none : (numbers b : List ℕ) → firstPut 0 numbers b ≡ b
+unfolding firstPut
+first-none numbers b = put-none 0 _ b
+
+-- one number more: a turn of the loop of `put_numbers`
+pub first-more : (k : ℕ) (numbers b : List ℕ) → wordPut k (getD numbers k 0) (firstPut k numbers b) ≡ firstPut (k + 1) numbers b
+unfolding firstPut
+first-more k numbers b =
+    let z : 8 * (k + 1) ≡ 8 * k + 8 = omega arith in
+    rw z
+    (word-joins 0 k (getD numbers k 0) _ b (omega arith)
+    (λ j h g.
+    let p : j - 8 * k ≡ j % 8 = omega arith in
+    let q : k ≡ j / 8 = omega arith in
+    rw (p, q)))
+
+pub numbers-all : (numbers b : List ℕ) → length numbers ≤ length b / 8 → firstPut (length numbers) numbers b ≡ numbersPut numbers b
+unfolding firstPut numbersPut
+numbers-all numbers b l = rw (le-leb (length numbers) (length b / 8) l)
+
+pub numbers-kept : (numbers b : List ℕ) → length b / 8 < length numbers → b ≡ numbersPut numbers b
+unfolding numbersPut
+numbers-kept numbers b l = rw (lt-leb (length numbers) (length b / 8) l)
+
+pub numbers-length : (numbers b : List ℕ) → length (numbersPut numbers b) ≡ length b
+unfolding numbersPut
+numbers-length numbers b = elim (decLt (length b / 8) (length numbers)) [
+  | yes l ↦ rw (lt-leb (length numbers) (length b / 8) l)
+  | no l ↦ rw (le-leb (length numbers) (length b / 8) (omega arith)) (put-length _ _ _ b)
+]
+
 -- ---- a row
 
 -- byte j of a row of eight words
@@ -135,13 +183,13 @@ words-none n words b = let z : 64 * n + 8 * 0 ≡ 64 * n = omega arith in rw z (
 
 -- one word more: a turn of the loop of `put_words`
 pub words-more : (k n : ℕ) (words b : List ℕ) → k < 8 → wordPut (8 * n + k) (getD words k 0) (wordsPut k n words b) ≡ wordsPut (k + 1) n words b
-unfolding wordPut wordsPut rowByte
+unfolding wordsPut rowByte
 words-more k n words b l =
     let w : ℕ = 8 * n + k in
     let y : 64 * n + 8 * k ≡ 8 * w = omega arith in
     let z : 64 * n + 8 * (k + 1) ≡ 8 * w + 8 = omega arith in
     rw (y, z)
-    (put-join (64 * n) (8 * w) (8 * w + 8) (rowByte words) (λ j. byteOf (j - 8 * w) (getD words k 0)) b (omega arith) (omega arith)
+    (word-joins (64 * n) w (getD words k 0) (rowByte words) b (omega arith)
     (λ j h g.
     let p : j - 8 * w ≡ j % 8 = omega arith in
     let q : k ≡ j / 8 % 8 = omega arith in
@@ -175,6 +223,12 @@ rows-more n row b =
     rw (rows-put (n + 1) row b, rows-put n row b, z)
     (sym (put-join 0 (64 * n) (64 * n + 64) (rowsByte row) (λ j. byteOf (j % 8) (getD (row n) (j / 8 % 8) 0)) b (omega arith) (omega arith)
     (λ j h g. let p : n ≡ j / 64 = omega arith in rw p)))
+
+-- rows that were put into other bytes, copied
+pub rows-copied : (count : ℕ) (row : ℕ → List ℕ) (z b : List ℕ) → 64 * count ≤ length z → bytesPut 0 (64 * count) (λ j. byteAt (rowsPut count row z) j) b ≡ rowsPut count row b
+rows-copied count row z b h =
+    rw (rows-put count row b, rows-put count row z)
+    (put-same 0 (64 * count) _ _ b (λ j l g. put-at 0 (64 * count) (rowsByte row) z j l g (omega arith)))
 
 -- ---- words read back
 

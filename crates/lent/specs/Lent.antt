@@ -3,7 +3,7 @@ use Prim.Native.Nat.{ℕ, suc, _+_, _-_, _*_, _/_, _%_}
 use mathlib.Core.Bool.{cond, _&&_}
 use mathlib.Core.List.{List, [], _∷_}
 use lib.Dec.{leb, ltb}
-use lib.ListN.{getD}
+use lib.ListN.{length, getD}
 use Rattle.le.specs.Le.{byteOf}
 
 -- the byte x at place j becomes f j x; i is the place of the list's first byte
@@ -30,3 +30,10 @@ rowPut n words b = bytesPut (64 * n) (64 * n + 64) (λ j. byteOf (j % 8) (getD w
 unfoldable pub rowsPut : ℕ → (ℕ → List ℕ) → List ℕ → List ℕ
 rowsPut count row b =
     each (λ j x. cond (ltb j (64 * count)) (byteOf (j % 8) (getD (row (j / 64)) (j / 8 % 8) 0)) x) b
+
+-- the lent bytes with numbers as words in front, one behind the other; as they were where fewer words are lent. Bytes short of a word don't count
+unfoldable pub numbersPut : List ℕ → List ℕ → List ℕ
+numbersPut numbers b =
+    cond (leb (length numbers) (length b / 8))
+    (bytesPut 0 (8 * length numbers) (λ j. byteOf (j % 8) (getD numbers (j / 8) 0)) b)
+    b

@@ -1,8 +1,9 @@
-// Little-endian words in bytes that a caller lends.
+// Little-endian words, and bytes, put into bytes that a caller lends.
 ghost use mathlib.Core.Path.{_≡_};
 ghost use Prim.Native.Nat.{_+_, _*_, _≤_};
 ghost use lib.ListN.{length};
-ghost use Rattle.lent.specs.Lent.{wordPut, rowPut};
+ghost use Rattle.le.specs.Le.{byteAt};
+ghost use Rattle.lent.specs.Lent.{bytesPut, wordPut, rowPut, numbersPut};
 
 // v as word w. It is compiled to one store.
 pub fn put_word(b: &mut [u8], w: usize, v: u64)
@@ -29,5 +30,32 @@ pub fn put_words(b: &mut [u8], n: usize, words: [u64; 8])
     while k < 8 {
         put_word(b, 8 * n + k, words[k]);
         k += 1;
+    }
+}
+
+// Numbers as words in front; nothing where fewer words are lent.
+pub fn put_numbers(b: &mut [u8], numbers: &[u64])
+    ensures { λ _. ⌜ now (b .exit) ≡ numbersPut (now (numbers .entry)) (now (b .entry)) ⌝ }
+{
+    let n = numbers.len();
+    if b.len() / 8 < n {
+        return;
+    }
+    let mut k = 0;
+    while k < n {
+        put_word(b, k, numbers[k]);
+        k += 1;
+    }
+}
+
+// The first n bytes of others in front. It is compiled to a copy of n bytes.
+pub fn put_bytes(b: &mut [u8], from: &[u8], n: usize)
+    requires { ⌜ (n ≤ length (now b)) × (n ≤ length (now from)) ⌝ }
+    ensures { λ _. ⌜ now (b .exit) ≡ bytesPut 0 n (λ j. byteAt (now (from .entry)) j) (now (b .entry)) ⌝ }
+{
+    let mut i = 0;
+    while i < n {
+        b[i] = from[i];
+        i += 1;
     }
 }

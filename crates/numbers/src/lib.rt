@@ -1,4 +1,4 @@
-// Number `which` of an answer; 0 where the answer has no such number.
+// The numbers of an answer, in the order in which a call across the C linkage names them.
 ghost use mathlib.Core.Path.{_≡_};
 ghost use mathlib.Core.Bool.{cond};
 ghost use Rattle.answers.specs.Numbers.{numberOf, verdictNumbers, relocationNumbers, checkNumbers};
@@ -6,20 +6,15 @@ use answers::Checked;
 use answers::Relocations;
 use answers::Verdict;
 
-// By a `match`: an array of the numbers would be filled and then read at each call.
-pub fn verdict_number(v: Verdict, which: u32) -> u64
-    ensures { λ r. ⌜ r ≡ numberOf which (verdictNumbers v) ⌝ }
+// Number `which`; 0 where there is no such number.
+pub fn number_of(numbers: &[u64], which: u32) -> u64
+    ensures { λ r. ⌜ r ≡ numberOf which (now (numbers .entry)) ⌝ }
 {
-    let refusal = v.refusal;
-    match which {
-        0 => refusal.number,
-        1 => refusal.row,
-        2 => refusal.detail,
-        3 => v.platforms,
-        4 => v.initializations,
-        5 => v.directives,
-        _ => 0,
+    let i = which as usize;
+    if i < numbers.len() {
+        return numbers[i];
     }
+    0
 }
 
 fn number_if(test: bool) -> u64
@@ -31,12 +26,26 @@ fn number_if(test: bool) -> u64
     0
 }
 
-pub fn relocation_number(a: Relocations, which: u32) -> u64
-    ensures { λ r. ⌜ r ≡ numberOf which (relocationNumbers a) ⌝ }
+pub fn verdict_numbers(v: Verdict) -> [u64; 6]
+    ensures { λ r. ⌜ r ≡ verdictNumbers v ⌝ }
+{
+    let refusal = v.refusal;
+    [
+        refusal.number,
+        refusal.row,
+        refusal.detail,
+        v.platforms,
+        v.initializations,
+        v.directives,
+    ]
+}
+
+pub fn relocation_numbers(a: Relocations) -> [u64; 10]
+    ensures { λ r. ⌜ r ≡ relocationNumbers a ⌝ }
 {
     let refusal = a.refusal;
     let t = a.page_table;
-    let numbers = [
+    [
         refusal.number,
         refusal.row,
         refusal.detail,
@@ -47,27 +56,17 @@ pub fn relocation_number(a: Relocations, which: u32) -> u64
         t.used_size,
         t.vp_index,
         t.vtl,
-    ];
-    if which < 10 {
-        let i = which as usize;
-        return numbers[i];
-    }
-    0
+    ]
 }
 
-pub fn check_number(a: Checked, which: u32) -> u64
-    ensures { λ r. ⌜ r ≡ numberOf which (checkNumbers a) ⌝ }
+pub fn check_numbers(a: Checked) -> [u64; 4]
+    ensures { λ r. ⌜ r ≡ checkNumbers a ⌝ }
 {
     let refusal = a.refusal;
-    let numbers = [
+    [
         refusal.number,
         refusal.row,
         refusal.detail,
         number_if(a.holds),
-    ];
-    if which < 4 {
-        let i = which as usize;
-        return numbers[i];
-    }
-    0
+    ]
 }

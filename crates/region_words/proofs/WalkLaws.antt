@@ -1,6 +1,7 @@
 -- A walk over the initialization rows: where it starts, what a turn keeps, and where it ends.
 use Rattle.rows.{proofs.Kit.{_≡_, refl, sym, ap, _∙_, true, cond, _&&_, List, ℕ, _+_, _*_, _≤_, _<_, add-zero, arith, eqb, length}, specs.Rows.before, specs.Below.sumBelow}
-use Rattle.lent.{specs.Lent.{rowPut, rowsPut}, proofs.LentLaws.{rows-none, rows-length}}
+use Rattle.le.specs.Le.{byteAt}
+use Rattle.lent.{specs.Lent.{bytesPut, rowPut, rowsPut}, proofs.LentLaws.{rows-none, rows-length, rows-copied}}
 use Rattle.sheet.{specs.declared.Cursor.Cursor, specs.declared.SheetHead.SheetHead, specs.Head.{limits, headOf}, specs.Table.{rowKind, bodyOf}, specs.Read.Readable, specs.Walk.cursorAt}
 use Rattle.initialization_header.specs.Initializations.{initializationOf}
 use Rattle.rules.specs.Relocations.{isRelocatable, isPageTable, relocatableOf, regionCount}
@@ -83,3 +84,15 @@ module _ {s : List ℕ} {given end : ℕ} {lent b : List ℕ} {c : Cursor} {t co
         let q : c .row ≡ headOf s .platforms + w .i = rw (w .at) in let n = w .within in
         let f : head .platforms ≡ headOf s .platforms = rw e in
         all-rows s head e (w .i) (omega arith)
+
+-- ---- words that were collected, copied to those lent
+
+-- a mask has no more regions than there are initialization rows
+pub regions-within : (s : List ℕ) (given n : ℕ) → headOf s .initializations ≤ n → regionCount (sheetInitializations s) given ≤ n
+regions-within s given n h =
+    let k = rw (all-rows s (headOf s) refl (headOf s .initializations) (omega arith)) at (regions-few (sheetInitializations s) given (headOf s .initializations)) in
+    omega (arith, k)
+
+pub copied : (count n : ℕ) (row : ℕ → List ℕ) (z held b after : List ℕ) → 64 * count ≤ length z → held ≡ rowsPut count row z → n ≡ count
+    → after ≡ bytesPut 0 (64 * n) (λ j. byteAt held j) b → after ≡ rowsPut count row b
+copied count n row z held b after room h k e = rw (h, k) at e ∙ rows-copied count row z b room

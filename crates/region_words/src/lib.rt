@@ -108,8 +108,8 @@ pub struct PutRegions {
     pub count: usize,
 }
 
-// Puts the words of the mask's regions into the lent bytes, in header order; counts them and finds its page-table region on the way.
-pub fn put_regions(s: &[u8], head: SheetHead, given: u32, words: &mut [u8]) -> PutRegions
+// The words of the mask's regions, in header order, in front of bytes of its own; counts them and finds its page-table region on the way.
+fn collect(s: &[u8], head: SheetHead, given: u32, words: &mut [u8]) -> PutRegions
     requires { ⌜ Readable limits (now s) × (head ≡ headOf (now s)) × (64 * regionCount (sheetInitializations (now s)) given ≤ length (now words)) ⌝ }
     ensures { λ r. ⌜ (r .table ≡ foundTable (pageTableAt (sheetInitializations (now (s .entry))) given)) × (r .count ≡ regionCount (sheetInitializations (now (s .entry))) given) ⌝ }
     ensures { λ _. ⌜ now (words .exit) ≡ rowsPut (regionCount (sheetInitializations (now (s .entry))) given) (λ n. regionWords (regionAt (sheetInitializations (now (s .entry))) given n)) (now (words .entry)) ⌝ }
@@ -130,4 +130,28 @@ pub fn put_regions(s: &[u8], head: SheetHead, given: u32, words: &mut [u8]) -> P
         table: found_table(s, t, end),
         count,
     }
+}
+
+// Puts the words of the mask's regions into the lent bytes, all at once. They are collected in 4, 16 or 64 rows of its own: fewer take less time to clear.
+pub fn put_regions(s: &[u8], head: SheetHead, given: u32, words: &mut [u8]) -> PutRegions
+    requires { ⌜ Readable limits (now s) × (head ≡ headOf (now s)) × (64 * regionCount (sheetInitializations (now s)) given ≤ length (now words)) ⌝ }
+    ensures { λ r. ⌜ (r .table ≡ foundTable (pageTableAt (sheetInitializations (now (s .entry))) given)) × (r .count ≡ regionCount (sheetInitializations (now (s .entry))) given) ⌝ }
+    ensures { λ _. ⌜ now (words .exit) ≡ rowsPut (regionCount (sheetInitializations (now (s .entry))) given) (λ n. regionWords (regionAt (sheetInitializations (now (s .entry))) given n)) (now (words .entry)) ⌝ }
+{
+    if head.initializations <= 4 {
+        let mut few: [u8; 256] = [0; 256];
+        let found = collect(s, head, given, &mut few);
+        lent::put_bytes(words, &few, 64 * found.count);
+        return found;
+    }
+    if head.initializations <= 16 {
+        let mut some: [u8; 1024] = [0; 1024];
+        let found = collect(s, head, given, &mut some);
+        lent::put_bytes(words, &some, 64 * found.count);
+        return found;
+    }
+    let mut all: [u8; 4096] = [0; 4096];
+    let found = collect(s, head, given, &mut all);
+    lent::put_bytes(words, &all, 64 * found.count);
+    found
 }

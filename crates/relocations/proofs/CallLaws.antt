@@ -2,7 +2,7 @@
 use Rattle.rows.{proofs.Kit.{inl, inr, _≡_, refl, ap, sym, _∙_, Bool, true, false, _&&_, List, Option, none, some, ℕ, zero, suc, _*_, _/_, _≤_, _<_, arith, ltb, length}, proofs.Bools.{which, or-false-parts, ltb-same}}
 use Rattle.igvm_defs.{specs.declared.Refusal.Refusal, specs.Refusals.{noRefusal, isRefusal, inRow, orElse}, proofs.RefusalLaws.{orElse-first, orElse-later, else-refusal, row-refusal, no-fault-row}}
 use Rattle.lent.{specs.Lent.rowsPut, proofs.LentLaws.rows-none}
-use Rattle.sheet.{specs.Head.{Limits, limits}, specs.Read.Readable, proofs.Readable.readable-bounds}
+use Rattle.sheet.{specs.Head.{Limits, limits, headOf}, specs.Read.Readable, proofs.Readable.readable-bounds}
 use Rattle.sheet_headers.specs.Headers.{sheetHeaders}
 use Rattle.rules.{specs.Relocations.{regionAt, pageTableAt}, specs.declared.IgvmRelocatableRegion.IgvmRelocatableRegion, specs.declared.PageTableRegion.PageTableRegion}
 use Rattle.answers.{proofs.AnswerLaws.{regionsOf, accepted-readable, list-says, found-count}, specs.declared.Checked.Checked, specs.Verdict.verdictRefusal, specs.Relocations.{sheetInitializations, maskFault, wordsFault, relocationsRefusal, foundOf, relocationsOf, regionWords, wordsAfter, regionFault, checkRefusal, testRegion, checkOf}}
@@ -24,10 +24,11 @@ pub found-table : (n : ℕ) (o : Option PageTableRegion) (t : FoundTable) → t 
 found-table n none t e = rw e
 found-table n (some q) t e = rw e
 
--- what is kept of an accepted sheet has 64 regions at most
-pub kept-few : (s : List ℕ) {held : RelocRegions} {numbers contexts : List ℕ} → isRefusal (verdictRefusal limits s) ≡ false → Kept s held numbers contexts → held .count ≤ 64
+-- what is kept of an accepted sheet has no more regions than the sheet has initialization rows, which are 64 at most
+pub kept-few : (s : List ℕ) {held : RelocRegions} {numbers contexts : List ℕ} → isRefusal (verdictRefusal limits s) ≡ false → Kept s held numbers contexts
+    → (held .count ≤ headOf s .initializations) × (headOf s .initializations ≤ 64)
 unfolding sheetHeaders
-kept-few s h k = let b = readable-bounds s (accepted-readable limits s h) in omega (arith, k .regions .count)
+kept-few s h k = let b = readable-bounds s (accepted-readable limits s h) in (omega (arith, k .regions .count), b .initializations)
 
 -- a count that may be too high where the room is enough for it decides 37 as the count itself
 pub room-same : (n r many : ℕ) → many ≤ r → (n / 64 < r → r ≡ many) → ltb (n / 8) (8 * r) ≡ ltb (n / 8) (8 * many)

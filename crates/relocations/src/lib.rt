@@ -4,8 +4,8 @@ ghost use mathlib.Core.Bool.{false};
 ghost use mathlib.Core.Option.{none};
 ghost use Prim.Native.Nat.{_≤_, _<_};
 ghost use lib.ListN.{length};
-ghost use Rattle.igvm_defs.specs.Refusals.{noRefusal, isRefusal};
-ghost use Rattle.sheet.specs.Head.{initializationRows, limits};
+ghost use Rattle.igvm_defs.specs.Refusals.{noRefusal, isFault, isRefusal};
+ghost use Rattle.sheet.specs.Head.{initializationRows, limits, headOf, startFault};
 ghost use Rattle.rules.specs.Relocations.{regionCount};
 ghost use Rattle.relocations.specs.Query.{queryRefusal};
 ghost use Rattle.answers.specs.Relocations.{sheetInitializations, foundOf, relocationsRefusal, relocationsOf, wordsAfter, checkRefusal, baseCheckOf, containsOf};
@@ -22,6 +22,105 @@ struct Counted {
     count: usize,
 }
 
+// Of a sheet whose head and table are in order, with arrays for its regions.
+fn count_judged<'a>(
+    s: &'a [u8],
+    head: SheetHead,
+    given: u32,
+    room: usize,
+    masks: &'a mut [u32],
+    gpas: &'a mut [u64],
+    sizes: &'a mut [u64],
+    vps: &'a mut [u16],
+    vtls: &'a mut [u8],
+    tables: &'a mut [bool],
+    rows: &'a mut [u16],
+) -> Counted
+    requires { ⌜ (isFault (startFault limits (now s)) ≡ false) × (head ≡ headOf (now s)) ⌝ }
+    requires { ⌜ (headOf (now s) .initializations ≤ length (now masks)) × (headOf (now s) .initializations ≤ length (now gpas)) × (headOf (now s) .initializations ≤ length (now sizes)) × (headOf (now s) .initializations ≤ length (now vps)) × (headOf (now s) .initializations ≤ length (now vtls)) × (headOf (now s) .initializations ≤ length (now tables)) × (headOf (now s) .initializations ≤ length (now rows)) ⌝ }
+    ensures { λ r. ⌜ (r .refusal ≡ queryRefusal limits (now (s .entry)) given) × (r .count ≤ initializationRows) ⌝ }
+    ensures { λ r. ⌜ (isRefusal (r .refusal) ≡ false → (regionCount (sheetInitializations (now (s .entry))) given ≤ r .count) × (room < r .count → r .count ≡ regionCount (sheetInitializations (now (s .entry))) given)) ⌝ }
+{
+    let mut contexts: [u32; 3] = [0; 3];
+    let judged = judge::judge(
+        s,
+        head,
+        masks,
+        gpas,
+        sizes,
+        vps,
+        vtls,
+        tables,
+        rows,
+        &mut contexts,
+    );
+    let verdict = judged.verdict;
+    let refusal = verdict.refusal;
+    if refusal.is_refusal() {
+        return Counted { refusal, count: 0 };
+    }
+    Counted {
+        refusal: igvm_defs::refuse(given == 0, 35, 0, Fault::NONE).in_row(0),
+        count: regions::count_within(masks, tables, judged.count, given, room),
+    }
+}
+
+// Up to four initialization rows: small arrays take less time to clear.
+fn query_few(s: &[u8], head: SheetHead, given: u32, room: usize) -> Counted
+    requires { ⌜ (isFault (startFault limits (now s)) ≡ false) × (head ≡ headOf (now s)) × (head .initializations ≤ 4) ⌝ }
+    ensures { λ r. ⌜ (r .refusal ≡ queryRefusal limits (now (s .entry)) given) × (r .count ≤ initializationRows) ⌝ }
+    ensures { λ r. ⌜ (isRefusal (r .refusal) ≡ false → (regionCount (sheetInitializations (now (s .entry))) given ≤ r .count) × (room < r .count → r .count ≡ regionCount (sheetInitializations (now (s .entry))) given)) ⌝ }
+{
+    let mut masks: [u32; 4] = [0; 4];
+    let mut gpas: [u64; 4] = [0; 4];
+    let mut sizes: [u64; 4] = [0; 4];
+    let mut vps: [u16; 4] = [0; 4];
+    let mut vtls: [u8; 4] = [0; 4];
+    let mut tables: [bool; 4] = [false; 4];
+    let mut rows: [u16; 4] = [0; 4];
+    count_judged(
+        s,
+        head,
+        given,
+        room,
+        &mut masks,
+        &mut gpas,
+        &mut sizes,
+        &mut vps,
+        &mut vtls,
+        &mut tables,
+        &mut rows,
+    )
+}
+
+fn query_many(s: &[u8], head: SheetHead, given: u32, room: usize) -> Counted
+    requires { ⌜ (isFault (startFault limits (now s)) ≡ false) × (head ≡ headOf (now s)) ⌝ }
+    ensures { λ r. ⌜ (r .refusal ≡ queryRefusal limits (now (s .entry)) given) × (r .count ≤ initializationRows) ⌝ }
+    ensures { λ r. ⌜ (isRefusal (r .refusal) ≡ false → (regionCount (sheetInitializations (now (s .entry))) given ≤ r .count) × (room < r .count → r .count ≡ regionCount (sheetInitializations (now (s .entry))) given)) ⌝ }
+{
+    let mut masks: [u32; SheetHead::INITIALIZATION_ROWS] = [0; SheetHead::INITIALIZATION_ROWS];
+    let mut gpas: [u64; SheetHead::INITIALIZATION_ROWS] = [0; SheetHead::INITIALIZATION_ROWS];
+    let mut sizes: [u64; SheetHead::INITIALIZATION_ROWS] = [0; SheetHead::INITIALIZATION_ROWS];
+    let mut vps: [u16; SheetHead::INITIALIZATION_ROWS] = [0; SheetHead::INITIALIZATION_ROWS];
+    let mut vtls: [u8; SheetHead::INITIALIZATION_ROWS] = [0; SheetHead::INITIALIZATION_ROWS];
+    let mut tables: [bool; SheetHead::INITIALIZATION_ROWS] =
+        [false; SheetHead::INITIALIZATION_ROWS];
+    let mut rows: [u16; SheetHead::INITIALIZATION_ROWS] = [0; SheetHead::INITIALIZATION_ROWS];
+    count_judged(
+        s,
+        head,
+        given,
+        room,
+        &mut masks,
+        &mut gpas,
+        &mut sizes,
+        &mut vps,
+        &mut vtls,
+        &mut tables,
+        &mut rows,
+    )
+}
+
 fn query(s: &[u8], given: u32, room: usize) -> Counted
     ensures { λ r. ⌜ (r .refusal ≡ queryRefusal limits (now (s .entry)) given) × (r .count ≤ initializationRows) ⌝ }
     ensures { λ r. ⌜ (isRefusal (r .refusal) ≡ false → (regionCount (sheetInitializations (now (s .entry))) given ≤ r .count) × (room < r .count → r .count ≡ regionCount (sheetInitializations (now (s .entry))) given)) ⌝ }
@@ -33,36 +132,11 @@ fn query(s: &[u8], given: u32, room: usize) -> Counted
             count: 0,
         };
     }
-    let mut masks: [u32; SheetHead::INITIALIZATION_ROWS] = [0; SheetHead::INITIALIZATION_ROWS];
-    let mut gpas: [u64; SheetHead::INITIALIZATION_ROWS] = [0; SheetHead::INITIALIZATION_ROWS];
-    let mut sizes: [u64; SheetHead::INITIALIZATION_ROWS] = [0; SheetHead::INITIALIZATION_ROWS];
-    let mut vps: [u16; SheetHead::INITIALIZATION_ROWS] = [0; SheetHead::INITIALIZATION_ROWS];
-    let mut vtls: [u8; SheetHead::INITIALIZATION_ROWS] = [0; SheetHead::INITIALIZATION_ROWS];
-    let mut tables: [bool; SheetHead::INITIALIZATION_ROWS] =
-        [false; SheetHead::INITIALIZATION_ROWS];
-    let mut rows: [u16; SheetHead::INITIALIZATION_ROWS] = [0; SheetHead::INITIALIZATION_ROWS];
-    let mut contexts: [u32; 3] = [0; 3];
-    let judged = judge::judge(
-        s,
-        SheetHead::new(s),
-        &mut masks,
-        &mut gpas,
-        &mut sizes,
-        &mut vps,
-        &mut vtls,
-        &mut tables,
-        &mut rows,
-        &mut contexts,
-    );
-    let verdict = judged.verdict;
-    let refusal = verdict.refusal;
-    if refusal.is_refusal() {
-        return Counted { refusal, count: 0 };
+    let head = SheetHead::new(s);
+    if head.initializations <= 4 {
+        return query_few(s, head, given, room);
     }
-    Counted {
-        refusal: igvm_defs::refuse(given == 0, 35, 0, Fault::NONE).in_row(0),
-        count: regions::count_within(&masks, &tables, judged.count, given, room),
-    }
+    query_many(s, head, given, room)
 }
 
 // ---- the region list

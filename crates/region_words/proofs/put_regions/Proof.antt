@@ -1,68 +1,80 @@
-use Rattle.rows.proofs.Kit.{refl, ap, _-_, arith, needs, now}
-use Rattle.regions.proofs.TurnLaws.{Turn}
-use Rattle.region_words.proofs.{WalkLaws.{Walked, walk-none, lent-length, walk-at, walk-room, walk-few, walk-next, walk-all}, put_regions.Statement.statement}
+-- `put_regions` meets its contract: the rows that it collects in have room for the mask's regions, and what was collected is what is put.
+use Rattle.rows.proofs.Kit.{_*_, _≤_, _≡_, ap, arith, length, now, needs}
+use Rattle.sheet.{specs.declared.SheetHead.SheetHead, proofs.Readable.readable-bounds}
+use Rattle.rules.specs.Relocations.{regionCount}
+use Rattle.answers.specs.Relocations.{sheetInitializations}
+use Rattle.region_words.proofs.{WalkLaws.{regions-within, copied}, put_regions.Statement.statement}
 use Rattle.region_words.proofs.put_regions.Tie as tie
 
-abbrev Inv-loop : tie.InvT-loop
-Inv-loop s given words₀ first end c₀ t₀ count₀ words c t count = Walked s given end words₀ words c t count
+-- ---- the room for the mask's regions
 
-abbrev μ-loop : tie.MeasureT-loop
-μ-loop s given words₀ first end c₀ t₀ count₀ words c t count = end - c .row
+few : (c : tie.Then1) → let a = c .before .before .before .before .args in 64 * regionCount (sheetInitializations (now (a .s))) (a .given) ≤ 256
+few c =
+    let st = c .before .before .before .before in
+    let e = ap (λ (y : SheetHead). y .initializations) (st .pre .1) in
+    let n = regions-within (now (st .args .s)) (st .args .given) 4 (omega arith) in
+    omega arith
 
--- the facts of a turn
-known : (c : tie.Then1 Inv-loop μ-loop)
-    → Turn (now (c .before .before .before .before .before .before .before .before .args .s)) (c .before .before .loop .c) (c .before .before .loop .inv .i)
-known c =
-    let st = c .before .before .before .before .before .before .before .before in
-    walk-at (c .before .before .loop .inv) (st .args .head) (st .pre .1) refl (st .pre .0) (c .if1 .taken)
+some : (c : tie.Then2) → let a = c .before .before .before .before .before .before .args in 64 * regionCount (sheetInitializations (now (a .s))) (a .given) ≤ 1024
+some c =
+    let st = c .before .before .before .before .before .before in
+    let e = ap (λ (y : SheetHead). y .initializations) (st .pre .1) in
+    let n = regions-within (now (st .args .s)) (st .args .given) 16 (omega arith) in
+    omega arith
 
-loop-holds : tie.Need-loop-holds Inv-loop μ-loop
-loop-holds c =
-    let st = c .before .before .before .before .before in
-    walk-none (now (st .args .s)) (st .args .given) _ (now (st .args .words)) (st .args .head) (st .pre .1) refl (c .cursor-at .result) (c .cursor-at .ensures)
+all : (c : tie.Else2) → let a = c .before .before .before .before .before .before .args in 64 * regionCount (sheetInitializations (now (a .s))) (a .given) ≤ 4096
+all c =
+    let st = c .before .before .before .before .before .before in
+    let n = regions-within (now (st .args .s)) (st .args .given) 64 (readable-bounds _ (st .pre .0) .initializations) in
+    omega arith
 
-table-row-requires : tie.Need-table-row-requires Inv-loop μ-loop
-table-row-requires c κs = let k = known (c .before .before) in rw (c .before .cursor-row .ensures .0, c .cursor-body .ensures) (k .listed .1, k .least)
+-- ---- up to 4 rows
 
-put-region-requires : tie.Need-put-region-requires Inv-loop μ-loop
-put-region-requires c κs =
-    let turn = c .before .before .before .before in
-    let st = c .before .before .before .before .before .before .before .before .before .before .before .before in
-    let k = known turn in let w = turn .before .before .loop .inv in
-    rw (c .before .before .before .cursor-row .ensures .0, c .before .before .cursor-body .ensures) (
-      (k .listed .1, k .least, k .codes, walk-few w (st .args .head) (st .pre .1) refl (st .pre .0) (turn .if1 .taken)),
-      walk-room w (st .args .head) (st .pre .1) refl (st .pre .0) (turn .if1 .taken) (st .pre .2),
-    )
+put-bytes-requires : tie.Need-put-bytes-requires
+put-bytes-requires c κs =
+    let k = c .before .before .before .before .collect in
+    let held : length (k .last .1 .1 .1 .0) ≡ 256 = search needs in
+    let n = few (c .before .before .before .before .before .before) in
+    rw (k .ensures .0 .1) (c .before .before .before .before .before .before .before .before .before .before .pre .2, omega arith)
 
-loop-less : tie.Need-loop-less Inv-loop μ-loop
-loop-less c = let e = ap (λ x. x .row) (c .before .before .before .before .before .before .before .cursor-row .ensures .1) in let l = c .before .before .before .before .before .before .before .before .if1 .taken in omega arith
-
-loop-again : tie.Need-loop-again Inv-loop μ-loop
-loop-again c =
-    let turn = c .before .before .before .before .before .before .before .before in
-    let st = c .before .before .before .before .before .before .before .before .before .before .before .before .before .before .before .before in
-    let row = c .before .before .before .before .before .before .before .cursor-row .ensures in
-    let body = c .before .before .before .before .before .before .cursor-body .ensures in
-    let p = c .before .before .before .put-region .ensures in
-    walk-next (turn .before .before .loop .inv) (st .args .head) (st .pre .1) refl (st .pre .0) _ _ _ _ (turn .if1 .taken) (row .1)
-    (rw (row .0, body) at (c .before .before .before .before .before .table-row .ensures)) (rw (row .0, body) at (p .0)) (rw (row .0, body) at (p .1))
-
-found-table-requires : tie.Need-found-table-requires Inv-loop μ-loop
-found-table-requires c κs =
-    let st = c .before .before .before .before .before .before .before .before in
-    let t = c .before .before .loop .inv .table in
-    (st .pre .0, t .low, t .high, rw (st .pre .1))
-
-returns : tie.Need-returns Inv-loop μ-loop
+returns : tie.Need-returns
 returns c =
-    let st = c .before .before .before .before .before .before .before .before .before in
-    let w = c .before .before .before .loop .inv in
-    let all = walk-all w (st .args .head) (st .pre .1) refl (st .pre .0) (c .before .if1 .left) in
-    ((rw (c .found-table .ensures) (rw all at (w .table .table)), rw all at (w .counted)), rw all at (w .words))
+    let k = c .before .before .before .before .before .before .before .collect in
+    (k .ensures .0, copied _ _ _ _ _ _ _ (few (c .before .before .before .before .before .before .before .before .before)) (k .ensures .1) (k .ensures .0 .1) (c .before .before .put-bytes .ensures))
+
+-- ---- up to 16 rows
+
+put-bytes-requires-2 : tie.Need-put-bytes-requires-2
+put-bytes-requires-2 c κs =
+    let k = c .before .before .before .before .collect2 in
+    let held : length (k .last .1 .1 .1 .0) ≡ 1024 = search needs in
+    let n = some (c .before .before .before .before .before .before) in
+    rw (k .ensures .0 .1) (c .before .before .before .before .before .before .before .before .before .before .before .before .pre .2, omega arith)
+
+returns-2 : tie.Need-returns-2
+returns-2 c =
+    let k = c .before .before .before .before .before .before .before .collect2 in
+    (k .ensures .0, copied _ _ _ _ _ _ _ (some (c .before .before .before .before .before .before .before .before .before)) (k .ensures .1) (k .ensures .0 .1) (c .before .before .put-bytes2 .ensures))
+
+-- ---- up to 64 rows
+
+put-bytes-requires-3 : tie.Need-put-bytes-requires-3
+put-bytes-requires-3 c κs =
+    let k = c .before .before .before .before .collect3 in
+    let held : length (k .last .1 .1 .1 .0) ≡ 4096 = search needs in
+    let n = all (c .before .before .before .before .before .before) in
+    rw (k .ensures .0 .1) (c .before .before .before .before .before .before .before .before .before .before .before .before .pre .2, omega arith)
+
+returns-3 : tie.Need-returns-3
+returns-3 c =
+    let k = c .before .before .before .before .before .before .before .collect3 in
+    (k .ensures .0, copied _ _ _ _ _ _ _ (all (c .before .before .before .before .before .before .before .before .before)) (k .ensures .1) (k .ensures .0 .1) (c .before .before .put-bytes3 .ensures))
 
 pub put-regions-spec : {M : Type 1} → statement M
 put-regions-spec =
-    tie.close (tie.spec Inv-loop μ-loop (λ c. search needs) (λ c. search needs) (λ c. search needs)
-    (λ c κs. let st = c .before .before .before .before in (st .pre .0, rw (st .pre .1) (omega arith))) loop-holds
-    (λ c κs. known c .listed .0) (λ c κs. known (c .before) .listed .0) table-row-requires put-region-requires loop-less loop-again
-    found-table-requires (λ c. lent-length (c .before .before .before .loop .inv)) returns)
+    tie.close (tie.spec (λ c. search needs)
+    (λ c κs. let p = c .before .before .before .before .before .pre in (p .0, p .1, few (c .before))) (λ c. search needs) (λ c. search needs) put-bytes-requires (λ c. search needs) returns
+    (λ c. search needs)
+    (λ c κs. let p = c .before .before .before .before .before .before .before .pre in (p .0, p .1, some (c .before))) (λ c. search needs) (λ c. search needs) put-bytes-requires-2 (λ c. search needs) returns-2
+    (λ c. search needs)
+    (λ c κs. let p = c .before .before .before .before .before .before .before .pre in (p .0, p .1, all (c .before))) (λ c. search needs) (λ c. search needs) put-bytes-requires-3 (λ c. search needs) returns-3)
