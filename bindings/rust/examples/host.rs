@@ -1,7 +1,7 @@
 //! A host that reads a sheet from standard input, asks for the verdict, and for a mask (the argument, in hexadecimal digits; 1 without it) its regions, whether
 //! each may stay where it is, and its page-table region. It writes what examples/host.c of the repository does, and a refusal's reason to standard error.
 
-use sapyullu::{contains, relocation_base_valid, relocations, verdict, Refusal};
+use sapyullu::{relocations, verdict, Refusal};
 use std::io::Read;
 use std::process::ExitCode;
 
@@ -11,16 +11,10 @@ const MOST_BYTES: u64 = 16_777_217;
 fn answer(sheet: &[u8], mask: u32) -> Result<(), Refusal> {
     println!("{}", verdict(sheet)?.line());
     let found = relocations(sheet, mask)?;
-    for (number, region) in (0..).zip(&found.regions) {
-        let stays = relocation_base_valid(sheet, mask, number, region.base_gpa)?;
-        let holds = contains(sheet, mask, number, region.base_gpa)?;
-        println!(
-            "region {number}: base {:#x} size {:#x}, may stay: {}, holds its base: {}",
-            region.base_gpa,
-            region.size,
-            u8::from(stays),
-            u8::from(holds)
-        );
+    for (number, region) in found.regions.iter().enumerate() {
+        let (base, size) = (region.base_gpa, region.size);
+        let (stays, holds) = (u8::from(region.relocation_base_valid(base)), u8::from(region.contains(base)));
+        println!("region {number}: base {base:#x} size {size:#x}, may stay: {stays}, holds its base: {holds}");
     }
     if let Some(table) = found.page_table {
         println!("page table: gpa {:#x} size {:#x} used {:#x}", table.gpa, table.size, table.used_size);

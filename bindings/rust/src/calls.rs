@@ -1,10 +1,45 @@
-//! The four calls of the library, as safe functions. A call of the library returns one number of its answer, so an answer is several calls, which agree: the
-//! library's answer depends on its arguments alone.
+//! The calls of the library, as safe functions. Each makes one call, which puts all numbers of the answer into bytes that are lent to it.
 
+use crate::headers::region_flags;
 use crate::{Refusal, Vtl};
 
 /// `libigvm.a`, as include/igvm.h declares it: any bytes, any numbers.
 mod linked {
+    extern "C" {
+        pub fn igvm_verdict_numbers(sheet: *const u8, sheet_len: usize, numbers: *mut u8, numbers_len: usize) -> u64;
+        pub fn igvm_relocations_numbers(
+            sheet: *const u8,
+            sheet_len: usize,
+            mask: u32,
+            words: *mut u8,
+            words_len: usize,
+            numbers: *mut u8,
+            numbers_len: usize,
+        ) -> u64;
+        pub fn igvm_relocation_base_valid_numbers(
+            sheet: *const u8,
+            sheet_len: usize,
+            mask: u32,
+            region: u64,
+            base: u64,
+            numbers: *mut u8,
+            numbers_len: usize,
+        ) -> u64;
+        pub fn igvm_contains_numbers(
+            sheet: *const u8,
+            sheet_len: usize,
+            mask: u32,
+            region: u64,
+            gpa: u64,
+            numbers: *mut u8,
+            numbers_len: usize,
+        ) -> u64;
+        pub fn igvm_region_base_valid(region: *const u8, region_len: usize, base: u64) -> u64;
+        pub fn igvm_region_contains(region: *const u8, region_len: usize, gpa: u64) -> u64;
+    }
+
+    // One number of an answer for each call. The tests below hold the whole answers to them.
+    #[cfg(test)]
     extern "C" {
         pub fn igvm_verdict(sheet: *const u8, sheet_len: usize, which: u32) -> u64;
         pub fn igvm_relocations(sheet: *const u8, sheet_len: usize, mask: u32, words: *mut u8, words_len: usize, which: u32) -> u64;
@@ -13,19 +48,55 @@ mod linked {
     }
 }
 
-/// The refusal, if there is one, of the call that `ask` makes for a number.
-fn accepted(mut ask: impl FnMut(u32) -> u64) -> Result<(), Refusal> {
-    match ask(0) {
-        0 => Ok(()),
-        number => Err(Refusal::from_numbers(number, ask(1), ask(2))),
+/// The numbers that a call puts into the bytes lent to it, where there is room for all of them.
+fn numbers<const COUNT: usize>(call: impl FnOnce(&mut [u8]) -> u64) -> [u64; COUNT] {
+    let mut words = [[0; 8]; COUNT];
+    call(words.as_flattened_mut());
+    words.map(u64::from_le_bytes)
+}
+
+fn verdict_numbers(sheet: &[u8]) -> [u64; 6] {
+    // SAFETY: the pointers and the lengths are those of two slices that share nothing; the sheet is only read.
+    numbers(|lent| unsafe { linked::igvm_verdict_numbers(sheet.as_ptr(), sheet.len(), lent.as_mut_ptr(), lent.len()) })
+}
+
+fn relocations_numbers(sheet: &[u8], mask: u32, words: &mut [u8]) -> [u64; 10] {
+    let (sheet_len, words_len) = (sheet.len(), words.len());
+    // SAFETY: the pointers and the lengths are those of three slices that share nothing; the sheet is only read.
+    numbers(|lent| unsafe {
+        linked::igvm_relocations_numbers(sheet.as_ptr(), sheet_len, mask, words.as_mut_ptr(), words_len, lent.as_mut_ptr(), lent.len())
+    })
+}
+
+fn relocation_base_valid_numbers(sheet: &[u8], mask: u32, region: u64, base: u64) -> [u64; 4] {
+    // SAFETY: the pointers and the lengths are those of two slices that share nothing; the sheet is only read.
+    numbers(|lent| unsafe {
+        linked::igvm_relocation_base_valid_numbers(sheet.as_ptr(), sheet.len(), mask, region, base, lent.as_mut_ptr(), lent.len())
+    })
+}
+
+fn contains_numbers(sheet: &[u8], mask: u32, region: u64, gpa: u64) -> [u64; 4] {
+    // SAFETY: the pointers and the lengths are those of two slices that share nothing; the sheet is only read.
+    numbers(|lent| unsafe { linked::igvm_contains_numbers(sheet.as_ptr(), sheet.len(), mask, region, gpa, lent.as_mut_ptr(), lent.len()) })
+}
+
+/// The numbers of an answer, unless the first three say that it is a refusal.
+fn accepted<const COUNT: usize>(sheet: &[u8], numbers: [u64; COUNT]) -> Result<[u64; COUNT], Refusal> {
+    match numbers[0] {
+        0 => Ok(numbers),
+        number => Err(Refusal::from_numbers(number, numbers[1], numbers[2]).in_sheet(sheet)),
     }
 }
 
 /// The rows of an accepted sheet.
 #[derive(Debug, Clone, Copy, PartialEq, Eq)]
+#[non_exhaustive]
 pub struct Counts {
+    /// The rows of the platform list.
     pub platform_headers: u64,
+    /// The rows of the initialization list.
     pub initialization_headers: u64,
+    /// The rows of the directive list.
     pub directive_headers: u64,
 }
 
@@ -37,25 +108,37 @@ impl Counts {
 }
 
 /// Whether the sheet is accepted. Stands for `IgvmFile::new`.
+///
+/// # Errors
+///
+/// The sheet is refused: any of [`Error`](crate::Error) 1 to 34.
 pub fn verdict(sheet: &[u8]) -> Result<Counts, Refusal> {
-    // SAFETY: the pointer and the length are those of a slice, which is only read.
-    let ask = |which| unsafe { linked::igvm_verdict(sheet.as_ptr(), sheet.len(), which) };
-    accepted(ask)?;
-    Ok(Counts { platform_headers: ask(3), initialization_headers: ask(4), directive_headers: ask(5) })
+    let [_, _, _, platform_headers, initialization_headers, directive_headers] = accepted(sheet, verdict_numbers(sheet))?;
+    Ok(Counts { platform_headers, initialization_headers, directive_headers })
 }
 
-/// A relocatable region.
+/// A relocatable region. It has the fields and the methods of crate igvm's, and can be made from one field by field.
 #[derive(Debug, Clone, PartialEq, Eq)]
 pub struct IgvmRelocatableRegion {
+    /// Where the region lies.
     pub base_gpa: u64,
+    /// The region's bytes.
     pub size: u64,
+    /// What a new base must be a multiple of.
     pub relocation_alignment: u64,
+    /// The lowest new base.
     pub minimum_relocation_gpa: u64,
+    /// The highest end behind a new base.
     pub maximum_relocation_gpa: u64,
+    /// The region is VTL 2's.
     pub is_vtl2: bool,
+    /// The instruction pointer moves with the region.
     pub apply_rip_offset: bool,
+    /// The GDT's base moves with the region.
     pub apply_gdtr_offset: bool,
+    /// The processor whose context takes the move.
     pub vp_index: u16,
+    /// The VTL whose context takes the move.
     pub vtl: Vtl,
 }
 
@@ -83,31 +166,79 @@ impl IgvmRelocatableRegion {
             vtl: Vtl::from_code(word(7))?,
         })
     }
+
+    /// The region's eight words, of which [`from_words`](Self::from_words) makes it again.
+    pub fn to_words(&self) -> [u8; REGION_BYTES] {
+        let mut bytes = [0; REGION_BYTES];
+        let words = [
+            self.base_gpa,
+            self.size,
+            self.relocation_alignment,
+            self.minimum_relocation_gpa,
+            self.maximum_relocation_gpa,
+            region_flags(self.is_vtl2, self.apply_rip_offset, self.apply_gdtr_offset).into(),
+            self.vp_index.into(),
+            self.vtl.code().into(),
+        ];
+        bytes.copy_from_slice(words.map(u64::to_le_bytes).as_flattened());
+        bytes
+    }
+
+    /// Whether the gpa lies in the region: from its base up to, not including, base + size. The sum is exact: it does not overflow.
+    ///
+    /// This asks the library, and needs no sheet. [`contains`] of the region's sheet, mask and number says the same.
+    pub fn contains(&self, gpa: u64) -> bool {
+        let region = self.to_words();
+        // SAFETY: the pointer and the length are those of a slice, which is only read.
+        unsafe { linked::igvm_region_contains(region.as_ptr(), region.len(), gpa) == 1 }
+    }
+
+    /// Whether the region may be moved to the base: it is a multiple of the alignment, not below the minimum, and base + size is not above the maximum. The
+    /// sum is exact: it does not overflow.
+    ///
+    /// This asks the library, and needs no sheet. [`relocation_base_valid`] of the region's sheet, mask and number says the same. No region of an accepted
+    /// image has alignment 0; of one that has, 0 alone can be valid.
+    pub fn relocation_base_valid(&self, relocation_base: u64) -> bool {
+        let region = self.to_words();
+        // SAFETY: the pointer and the length are those of a slice, which is only read.
+        unsafe { linked::igvm_region_base_valid(region.as_ptr(), region.len(), relocation_base) == 1 }
+    }
 }
 
 /// The page-table region of a mask.
 #[derive(Debug, Clone, Copy, PartialEq, Eq)]
+#[non_exhaustive]
 pub struct PageTableRegion {
+    /// Where the region lies.
     pub gpa: u64,
+    /// The region's bytes.
     pub size: u64,
+    /// The bytes in use, at most the size. The image says it, and up to 2^64 - 4096 of it is accepted: bound it before you allocate so many bytes, as
+    /// `PageTableRelocationBuilder::new` of crate igvm does.
     pub used_size: u64,
+    /// The processor whose context takes the move.
     pub vp_index: u16,
+    /// The VTL whose context takes the move.
     pub vtl: Vtl,
 }
 
 /// What may be relocated under a mask.
 #[derive(Debug, Clone, PartialEq, Eq)]
+#[non_exhaustive]
 pub struct Relocations {
-    /// in the order of their headers
+    /// The regions, in the order of their headers. Where crate igvm has None, there are none.
     pub regions: Vec<IgvmRelocatableRegion>,
+    /// The page-table region, if the mask has one.
     pub page_table: Option<PageTableRegion>,
 }
 
 /// What [`relocations_into`] answers beside the lent bytes.
 #[derive(Debug, Clone, Copy, PartialEq, Eq)]
+#[non_exhaustive]
 pub struct Filled {
-    /// the regions in the lent bytes, `REGION_BYTES` each
+    /// The regions in the lent bytes, `REGION_BYTES` each.
     pub count: usize,
+    /// The page-table region, if the mask has one.
     pub page_table: Option<PageTableRegion>,
 }
 
@@ -115,6 +246,14 @@ pub struct Filled {
 const BROKEN: &str = "libigvm.a breaks the promises of include/igvm.h";
 
 /// The regions of a mask and its page-table region: those whose headers' masks hold every bit of it. Stands for `IgvmFile::relocations`.
+///
+/// # Errors
+///
+/// The sheet is refused, by what [`verdict`] says of it, or the mask is 0 ([`QueryMaskZero`](crate::Error::QueryMaskZero)).
+///
+/// # Panics
+///
+/// The library linked is not the one of this crate's version.
 pub fn relocations(sheet: &[u8], mask: u32) -> Result<Relocations, Refusal> {
     let mut words = [0; MOST_REGIONS * REGION_BYTES];
     let filled = relocations_into(sheet, mask, &mut words)?;
@@ -123,35 +262,138 @@ pub fn relocations(sheet: &[u8], mask: u32) -> Result<Relocations, Refusal> {
     Ok(Relocations { regions: regions.map(region).collect(), page_table: filled.page_table })
 }
 
-/// The same with the regions in the bytes that are lent, as [`IgvmRelocatableRegion::from_words`] reads them. Bytes behind them are as they were, and after a refusal
-/// all are.
+/// The same with the regions in the bytes that are lent, as [`IgvmRelocatableRegion::from_words`] reads them. Bytes behind them are as they were, and after
+/// a refusal all are.
+///
+/// # Errors
+///
+/// As [`relocations`] does, and where fewer than [`REGION_BYTES`] are lent for each region ([`TooFewWordsLent`](crate::Error::TooFewWordsLent)).
+///
+/// # Panics
+///
+/// The library linked is not the one of this crate's version.
 pub fn relocations_into(sheet: &[u8], mask: u32, words: &mut [u8]) -> Result<Filled, Refusal> {
-    // SAFETY: the pointers and the lengths are those of two slices that share nothing; the sheet is only read.
-    let mut ask = |which| unsafe { linked::igvm_relocations(sheet.as_ptr(), sheet.len(), mask, words.as_mut_ptr(), words.len(), which) };
-    accepted(&mut ask)?;
-    let count = usize::try_from(ask(3)).expect(BROKEN);
-    let page_table = (ask(4) == 1).then(|| PageTableRegion {
-        gpa: ask(5),
-        size: ask(6),
-        used_size: ask(7),
-        vp_index: u16::try_from(ask(8)).expect(BROKEN),
-        vtl: Vtl::from_code(ask(9)).expect(BROKEN),
+    let numbers = accepted(sheet, relocations_numbers(sheet, mask, words))?;
+    let [_, _, _, count, has_page_table, gpa, size, used_size, vp_index, vtl] = numbers;
+    let page_table = (has_page_table == 1).then(|| PageTableRegion {
+        gpa,
+        size,
+        used_size,
+        vp_index: u16::try_from(vp_index).expect(BROKEN),
+        vtl: Vtl::from_code(vtl).expect(BROKEN),
     });
-    Ok(Filled { count, page_table })
+    Ok(Filled { count: usize::try_from(count).expect(BROKEN), page_table })
 }
 
 /// Whether the mask's region of this number, from 0 in the order of [`Relocations::regions`], may be moved to the base.
+///
+/// The sheet is judged anew by each such call. [`IgvmRelocatableRegion::relocation_base_valid`] says the same of a region that [`relocations`] gave.
+///
+/// # Errors
+///
+/// The sheet is refused, the mask is 0 ([`QueryMaskZero`](crate::Error::QueryMaskZero)), or it has no region of this number
+/// ([`NoSuchRegion`](crate::Error::NoSuchRegion)).
 pub fn relocation_base_valid(sheet: &[u8], mask: u32, region: u64, base: u64) -> Result<bool, Refusal> {
-    // SAFETY: the pointer and the length are those of a slice, which is only read.
-    let ask = |which| unsafe { linked::igvm_relocation_base_valid(sheet.as_ptr(), sheet.len(), mask, region, base, which) };
-    accepted(ask)?;
-    Ok(ask(3) == 1)
+    let [.., valid] = accepted(sheet, relocation_base_valid_numbers(sheet, mask, region, base))?;
+    Ok(valid == 1)
 }
 
 /// Whether the gpa lies in the mask's region of this number.
+///
+/// The sheet is judged anew by each such call. [`IgvmRelocatableRegion::contains`] says the same of a region that [`relocations`] gave.
+///
+/// # Errors
+///
+/// As [`relocation_base_valid`] does.
 pub fn contains(sheet: &[u8], mask: u32, region: u64, gpa: u64) -> Result<bool, Refusal> {
-    // SAFETY: the pointer and the length are those of a slice, which is only read.
-    let ask = |which| unsafe { linked::igvm_contains(sheet.as_ptr(), sheet.len(), mask, region, gpa, which) };
-    accepted(ask)?;
-    Ok(ask(3) == 1)
+    let [.., contained] = accepted(sheet, contains_numbers(sheet, mask, region, gpa))?;
+    Ok(contained == 1)
+}
+
+#[cfg(test)]
+mod tests {
+    use super::*;
+    use std::fs;
+
+    /// The sheets of the folder samples: accepted ones, and one for each refusal.
+    fn sheets() -> Vec<Vec<u8>> {
+        let folder = concat!(env!("CARGO_MANIFEST_DIR"), "/../../samples");
+        let paths = fs::read_dir(folder).unwrap().map(|entry| entry.unwrap().path());
+        let sheets: Vec<_> =
+            paths.filter(|path| path.extension().is_some_and(|end| end == "sheet")).map(|path| fs::read(path).unwrap()).collect();
+        assert!(
+            sheets.iter().filter(|sheet| verdict(sheet).is_ok()).count() >= 10
+                && sheets.iter().filter(|sheet| verdict(sheet).is_err()).count() >= 34
+        );
+        sheets
+    }
+
+    /// The numbers of an answer, each by a call of its own, and the one behind the last, which is 0.
+    fn one_by_one<const COUNT: usize>(mut call: impl FnMut(u32) -> u64) -> [u64; COUNT] {
+        assert_eq!(call(COUNT as u32), 0);
+        std::array::from_fn(|which| call(which as u32))
+    }
+
+    #[test]
+    fn a_verdicts_numbers_are_those_of_the_calls_by_which() {
+        for sheet in sheets() {
+            // SAFETY: the pointer and the length are those of a slice, which is only read.
+            let single = one_by_one(|which| unsafe { linked::igvm_verdict(sheet.as_ptr(), sheet.len(), which) });
+            assert_eq!(verdict_numbers(&sheet), single);
+        }
+    }
+
+    #[test]
+    fn a_region_lists_numbers_and_words_are_those_of_the_calls_by_which() {
+        for sheet in sheets() {
+            for (mask, lent) in [0, 1, 2, 3].into_iter().flat_map(|mask| [(mask, 0), (mask, 63), (mask, 64), (mask, 4096)]) {
+                let (mut words, mut single_words) = (vec![0xA5; lent], vec![0xA5; lent]);
+                // SAFETY: the pointers and the lengths are those of two slices that share nothing; the sheet is only read.
+                let single = one_by_one(|which| unsafe {
+                    linked::igvm_relocations(sheet.as_ptr(), sheet.len(), mask, single_words.as_mut_ptr(), lent, which)
+                });
+                assert_eq!(relocations_numbers(&sheet, mask, &mut words), single);
+                assert_eq!(words, single_words);
+            }
+        }
+    }
+
+    #[test]
+    fn a_checks_numbers_are_those_of_the_calls_by_which() {
+        for sheet in sheets() {
+            for (mask, region) in [(0, 0), (1, 0), (1, 1), (2, 0), (3, 0), (1, u64::MAX)] {
+                for at in [0, 0xF_F000, 0x10_0000, 0x10_1FFF, 0x10_2000, 0x1F_E000, 0x1F_F000, u64::MAX] {
+                    let (start, length) = (sheet.as_ptr(), sheet.len());
+                    // SAFETY: the pointer and the length are those of a slice, which is only read.
+                    let valid = one_by_one(|which| unsafe { linked::igvm_relocation_base_valid(start, length, mask, region, at, which) });
+                    assert_eq!(relocation_base_valid_numbers(&sheet, mask, region, at), valid);
+                    // SAFETY: the pointer and the length are those of a slice, which is only read.
+                    let contained = one_by_one(|which| unsafe { linked::igvm_contains(start, length, mask, region, at, which) });
+                    assert_eq!(contains_numbers(&sheet, mask, region, at), contained);
+                }
+            }
+        }
+    }
+
+    #[test]
+    fn no_number_is_put_where_one_has_no_room() {
+        let sheet = [0; 16];
+        let mut lent = [0xA5; 47];
+        // SAFETY: the pointers and the lengths are those of two slices that share nothing; the sheet is only read.
+        let number = unsafe { linked::igvm_verdict_numbers(sheet.as_ptr(), sheet.len(), lent.as_mut_ptr(), lent.len()) };
+        assert_eq!((number, lent), (2, [0xA5; 47]));
+    }
+
+    #[test]
+    fn fewer_than_64_bytes_are_no_region_and_bytes_behind_them_do_not_count() {
+        let mut bytes = [0xFF; 65];
+        bytes[..REGION_BYTES].copy_from_slice(&IgvmRelocatableRegion::from_words(&[0; REGION_BYTES]).unwrap().to_words());
+        bytes[8] = 1;
+        let contains = |length: usize| {
+            let region = &bytes[..length];
+            // SAFETY: the pointer and the length are those of a slice, which is only read.
+            unsafe { linked::igvm_region_contains(region.as_ptr(), region.len(), 0) }
+        };
+        assert_eq!([0, 63, 64, 65].map(contains), [0, 0, 1, 1]);
+    }
 }

@@ -1,13 +1,46 @@
 //! Admission of IGVM images for a host: `libigvm.a`, whose answers are proved, behind safe functions.
 //!
-//! A [`Sheet`] holds the values of an image's headers, and [`Sheet::bytes`] writes them as the library reads them. [`verdict`] says whether the image is accepted,
-//! [`relocations`] which regions of a mask may be relocated, [`relocation_base_valid`] and [`contains`] what holds of one region. Each takes any
-//! bytes, and answers or gives one [`Refusal`].
+//! A [`Sheet`] holds the values of an image's headers, and [`Sheet::bytes`] writes them as the library reads them. [`verdict`] says whether the image is
+//! accepted, and [`relocations`] which regions of a mask may be relocated; the methods of a region say where to. Each takes any bytes, makes one call of
+//! the library, and answers or gives one [`Refusal`], with its row, its list and index there, its reason and its cure.
 //!
-//! Headers, fields and errors have the names of crate igvm 0.5.0, whose `IgvmFile::new` and `relocations` the library stands for.
+//! ```
+//! use sapyullu::*;
+//!
+//! let platform = IGVM_VHS_SUPPORTED_PLATFORM {
+//!     compatibility_mask: 1,
+//!     highest_vtl: 0,
+//!     platform_type: IgvmPlatformType::NATIVE,
+//!     platform_version: 2,
+//!     shared_gpa_boundary: 0,
+//! };
+//! let sheet = Sheet {
+//!     revision: IgvmRevision::V1,
+//!     platform_headers: vec![IgvmPlatformHeader::SupportedPlatform(platform)],
+//!     initialization_headers: vec![],
+//!     directive_headers: vec![],
+//! };
+//! let refusal = verdict(&sheet.bytes()?).unwrap_err();
+//! assert_eq!(refusal.error, Error::InvalidPlatformVersion);
+//! assert_eq!(refusal.place, Some(Place { list: List::Platform, index: 0 }));
+//! assert_eq!(refusal.error.cure(), "give the platform version 1");
+//! # Ok::<(), SheetError>(())
+//! ```
+//!
+//! Headers, fields and errors have the names of crate igvm 0.5.0, whose `IgvmFile::new` and `relocations` the library stands for. With the feature `igvm`
+//! the macro `igvm_adapter` makes sheets of that crate's own headers.
+//!
+//! In the repository: docs/SHEET.md has the sheet's layout and its limits, docs/REFUSALS.md each refusal with what it means, docs/MIGRATION.md the way from
+//! crate igvm to this one, docs/DIFFERENCES.md where the answers differ from that crate's. The program examples/explain.rs puts a sheet into words and says
+//! what is wrong with it.
 
+#![deny(missing_docs)]
+
+#[cfg(feature = "igvm")]
+mod adapter;
 mod calls;
 mod headers;
+mod place;
 mod refusal;
 mod sheet;
 
@@ -15,8 +48,9 @@ pub use calls::{contains, relocation_base_valid, relocations, relocations_into, 
 pub use calls::{Counts, Filled, IgvmRelocatableRegion, PageTableRegion, Relocations, REGION_BYTES};
 pub use headers::{Arch, IgvmDirectiveHeader, IgvmInitializationHeader, IgvmPlatformHeader, IgvmRevision, Vtl};
 pub use headers::{IgvmPageDataType, IgvmPlatformType, IGVM_VHS_PARAMETER, IGVM_VHS_PARAMETER_INSERT, IGVM_VHS_SUPPORTED_PLATFORM};
+pub use place::{List, Place};
 pub use refusal::{Error, Refusal};
-pub use sheet::{Sheet, SheetError};
+pub use sheet::{sheet_bytes, Sheet, SheetError};
 
 // The Rust in the repository's README is run by the tests. Its other blocks are fenced and name their language.
 #[cfg(doctest)]

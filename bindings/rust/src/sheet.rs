@@ -1,32 +1,49 @@
 //! From header values to the bytes of a sheet. Every value that a header can hold is written as it is: it is the library that refuses.
 
-use crate::{Arch, IgvmDirectiveHeader, IgvmInitializationHeader, IgvmPlatformHeader, IgvmRevision, Vtl, IGVM_VHS_PARAMETER};
+use crate::headers::region_flags;
+use crate::{Arch, IgvmDirectiveHeader, IgvmInitializationHeader, IgvmPlatformHeader, IgvmRevision, List, Place, IGVM_VHS_PARAMETER};
+use std::borrow::Borrow;
 use std::fmt;
 
 /// The headers of an image, list by list.
 #[derive(Debug, Clone, PartialEq, Eq)]
 pub struct Sheet {
+    /// The revision, with architecture and page size.
     pub revision: IgvmRevision,
+    /// The platform headers.
     pub platform_headers: Vec<IgvmPlatformHeader>,
+    /// The initialization headers.
     pub initialization_headers: Vec<IgvmInitializationHeader>,
+    /// The directive headers.
     pub directive_headers: Vec<IgvmDirectiveHeader>,
 }
 
 /// Header values that no sheet can hold: a number of rows or bytes does not fit in its field.
 #[derive(Debug, Clone, Copy, PartialEq, Eq)]
+#[non_exhaustive]
 pub enum SheetError {
     /// A list of more than 65,535 rows.
-    TooManyRows { list: &'static str, rows: usize },
-    /// A body of more than 4,294,967,295 bytes. Rows count from 1 across the lists.
-    BodyTooLong { row: usize, bytes: usize },
+    TooManyRows {
+        /// The list.
+        list: List,
+        /// Its rows.
+        rows: usize,
+    },
+    /// A body of more than 4,294,967,295 bytes.
+    BodyTooLong {
+        /// The header whose body it is.
+        place: Place,
+        /// The body's bytes.
+        bytes: usize,
+    },
 }
 
 impl fmt::Display for SheetError {
     fn fmt(&self, f: &mut fmt::Formatter<'_>) -> fmt::Result {
         match self {
             SheetError::TooManyRows { list, rows } => write!(f, "{rows} {list} rows, of which a sheet holds at most {}", u16::MAX),
-            SheetError::BodyTooLong { row, bytes } => {
-                write!(f, "the body of row {row} has {bytes} bytes, of which a sheet holds at most {}", u32::MAX)
+            SheetError::BodyTooLong { place, bytes } => {
+                write!(f, "the body of {place} has {bytes} bytes, of which a sheet holds at most {}", u32::MAX)
             }
         }
     }
@@ -35,113 +52,216 @@ impl fmt::Display for SheetError {
 impl std::error::Error for SheetError {}
 
 impl Sheet {
-    /// The sheet's bytes: head, table of contents, bodies.
+    /// The sheet's bytes: head, table of contents, bodies. They are allocated once, at their length.
+    ///
+    /// # Errors
+    ///
+    /// A list is longer than a sheet can say, or a body is ([`SheetError`]). A sheet that the library refuses can be written.
     pub fn bytes(&self) -> Result<Vec<u8>, SheetError> {
-        let mut sheet = self.head()?;
-        let rows = self.rows();
-        let lengths = body_lengths(rows.iter().map(|row| row.fields.len() + row.opaque.len()))?;
-        for (row, length) in rows.iter().zip(lengths) {
-            sheet.extend(row.kind.to_le_bytes());
-            sheet.extend(length.to_le_bytes());
+        sheet_bytes(self.revision, &self.platform_headers, &self.initialization_headers, &self.directive_headers)
+    }
+}
+
+/// The bytes of the sheet of these headers, which are given by value or by reference, in any form that can be gone through twice. Bytes that are lent to a
+/// header (as an `IgvmDirectiveHeader<&[u8]>` has them) are copied once, into the sheet, which is allocated once, at its length.
+///
+/// ```
+/// use sapyullu::*;
+///
+/// let page = vec![0xF4; 4096];
+/// let platform = IgvmPlatformHeader::SupportedPlatform(IGVM_VHS_SUPPORTED_PLATFORM {
+///     compatibility_mask: 1,
+///     highest_vtl: 0,
+///     platform_type: IgvmPlatformType::NATIVE,
+///     platform_version: 1,
+///     shared_gpa_boundary: 0,
+/// });
+/// let pages = (0..3).map(|number| IgvmDirectiveHeader::PageData {
+///     gpa: 4096 * number,
+///     compatibility_mask: 1,
+///     flags: 0,
+///     data_type: IgvmPageDataType::NORMAL,
+///     data: page.as_slice(),
+/// });
+/// let no_regions: [IgvmInitializationHeader; 0] = [];
+/// let sheet = sheet_bytes(IgvmRevision::V1, [platform], no_regions, pages)?;
+/// assert_eq!(verdict(&sheet).unwrap().line(), "accepted 1 0 3");
+/// # Ok::<(), SheetError>(())
+/// ```
+///
+/// # Errors
+///
+/// A list is longer than a sheet can say, or a body is ([`SheetError`]). A sheet that the library refuses can be written.
+///
+/// # Panics
+///
+/// A list has more or fewer headers or bytes when it is gone through again.
+pub fn sheet_bytes<Platforms, Initializations, Directives, Bytes>(
+    revision: IgvmRevision,
+    platforms: Platforms,
+    initializations: Initializations,
+    directives: Directives,
+) -> Result<Vec<u8>, SheetError>
+where
+    Platforms: IntoIterator<Item: Borrow<IgvmPlatformHeader>, IntoIter: Clone>,
+    Initializations: IntoIterator<Item: Borrow<IgvmInitializationHeader>, IntoIter: Clone>,
+    Directives: IntoIterator<Item: Borrow<IgvmDirectiveHeader<Bytes>>, IntoIter: Clone>,
+    Bytes: AsRef<[u8]>,
+{
+    let (platforms, initializations, directives) = (platforms.into_iter(), initializations.into_iter(), directives.into_iter());
+    let mut counts = List::ALL.map(Count::new);
+    platforms.clone().for_each(|header| platform_row(&mut counts[0], header.borrow()));
+    initializations.clone().for_each(|header| initialization_row(&mut counts[1], header.borrow()));
+    directives.clone().for_each(|header| directive_row(&mut counts[2], header.borrow()));
+
+    let mut sheet = empty_sheet(revision, &counts)?;
+    let mut rows = Writer::new(&mut sheet, &counts);
+    platforms.for_each(|header| platform_row(&mut rows, header.borrow()));
+    initializations.for_each(|header| initialization_row(&mut rows, header.borrow()));
+    directives.for_each(|header| directive_row(&mut rows, header.borrow()));
+    rows.finish();
+    Ok(sheet)
+}
+
+/// Two passes over one list have to agree, or the sheet would hold other rows than were counted.
+const CHANGED: &str = "a list of headers changed while it was written";
+
+/// Writes these bytes in front, and leaves what is behind them.
+#[inline]
+fn put(rest: &mut &mut [u8], bytes: &[u8]) {
+    let (front, behind) = std::mem::take(rest).split_at_mut_checked(bytes.len()).expect(CHANGED);
+    front.copy_from_slice(bytes);
+    *rest = behind;
+}
+
+/// Numbers one behind the other, little-endian, each of its width.
+macro_rules! fields {
+    ($($width:ident: $value:expr),*) => {{
+        let mut bytes = [0; 0 $(+ size_of::<$width>())*];
+        let mut rest = &mut bytes[..];
+        $(put(&mut rest, &$width::to_le_bytes($value));)*
+        bytes
+    }};
+}
+
+/// Where the rows of a sheet go, which are first counted and then written. A row's body is its fields and then its opaque bytes.
+trait Rows {
+    fn row<const FIELDS: usize>(&mut self, kind: u32, fields: [u8; FIELDS], opaque: &[u8]);
+}
+
+/// The rows of a list and the bytes of their bodies.
+struct Count {
+    list: List,
+    rows: usize,
+    bytes: usize,
+    too_long: Option<SheetError>,
+}
+
+impl Count {
+    fn new(list: List) -> Count {
+        Count { list, rows: 0, bytes: 0, too_long: None }
+    }
+
+    #[inline]
+    fn body(&mut self, bytes: usize) {
+        if u32::try_from(bytes).is_err() {
+            let place = Place { list: self.list, index: self.rows };
+            self.too_long.get_or_insert(SheetError::BodyTooLong { place, bytes });
         }
-        for row in &rows {
-            sheet.extend(&row.fields);
-            sheet.extend(row.opaque);
-        }
-        Ok(sheet)
+        self.rows += 1;
+        self.bytes += bytes;
     }
 
-    fn head(&self) -> Result<Vec<u8>, SheetError> {
-        let (revision, arch, page_size) = match self.revision {
-            IgvmRevision::V1 => (1, Arch::X64, 0),
-            IgvmRevision::V2 { arch, page_size } => (2, arch, page_size),
-        };
-        let mut head = vec![revision, arch as u8, 0, 0];
-        head.extend(page_size.to_le_bytes());
-        head.extend(row_count("platform", self.platform_headers.len())?.to_le_bytes());
-        head.extend(row_count("initialization", self.initialization_headers.len())?.to_le_bytes());
-        head.extend(row_count("directive", self.directive_headers.len())?.to_le_bytes());
-        head.extend([0, 0]);
-        Ok(head)
+    /// The number of rows as the head has it.
+    fn in_head(&self) -> Result<u16, SheetError> {
+        u16::try_from(self.rows).map_err(|_| SheetError::TooManyRows { list: self.list, rows: self.rows })
     }
 
-    fn rows(&self) -> Vec<Row<'_>> {
-        let platforms = self.platform_headers.iter().map(platform_row);
-        let initializations = self.initialization_headers.iter().map(initialization_row);
-        let directives = self.directive_headers.iter().map(directive_row);
-        platforms.chain(initializations).chain(directives).collect()
+    /// The first body that is too long.
+    fn bodies_fit(&self) -> Result<(), SheetError> {
+        self.too_long.map_or(Ok(()), Err)
     }
 }
 
-fn row_count(list: &'static str, rows: usize) -> Result<u16, SheetError> {
-    u16::try_from(rows).map_err(|_| SheetError::TooManyRows { list, rows })
-}
-
-fn body_lengths(lengths: impl Iterator<Item = usize>) -> Result<Vec<u32>, SheetError> {
-    (1..).zip(lengths).map(|(row, bytes)| u32::try_from(bytes).map_err(|_| SheetError::BodyTooLong { row, bytes })).collect()
-}
-
-/// A row of the sheet. Its body is the fields and then the opaque bytes.
-struct Row<'a> {
-    kind: u32,
-    fields: Vec<u8>,
-    opaque: &'a [u8],
-}
-
-impl<'a> Row<'a> {
-    fn new(kind: u32) -> Self {
-        Row { kind, fields: Vec::new(), opaque: &[] }
-    }
-
-    fn u8(mut self, field: u8) -> Self {
-        self.fields.push(field);
-        self
-    }
-
-    fn u16(mut self, field: u16) -> Self {
-        self.fields.extend(field.to_le_bytes());
-        self
-    }
-
-    fn u32(mut self, field: u32) -> Self {
-        self.fields.extend(field.to_le_bytes());
-        self
-    }
-
-    fn u64(mut self, field: u64) -> Self {
-        self.fields.extend(field.to_le_bytes());
-        self
-    }
-
-    fn vtl(self, field: Vtl) -> Self {
-        self.u8(field.code())
-    }
-
-    fn opaque(self, bytes: &'a [u8]) -> Self {
-        Row { opaque: bytes, ..self }
+impl Rows for Count {
+    #[inline]
+    fn row<const FIELDS: usize>(&mut self, _kind: u32, _fields: [u8; FIELDS], opaque: &[u8]) {
+        self.body(FIELDS + opaque.len());
     }
 }
 
-fn platform_row(header: &IgvmPlatformHeader) -> Row<'_> {
+const HEAD_BYTES: usize = 16;
+const ENTRY_BYTES: usize = 8;
+
+/// The sheet with its head, and zeroes for its table of contents and its bodies.
+fn empty_sheet(revision: IgvmRevision, counts: &[Count; 3]) -> Result<Vec<u8>, SheetError> {
+    let head = head(revision, [counts[0].in_head()?, counts[1].in_head()?, counts[2].in_head()?]);
+    counts.iter().try_for_each(Count::bodies_fit)?;
+    let behind: usize = counts.iter().map(|count| ENTRY_BYTES * count.rows + count.bytes).sum();
+    let mut sheet = vec![0; HEAD_BYTES + behind];
+    sheet[..HEAD_BYTES].copy_from_slice(&head);
+    Ok(sheet)
+}
+
+fn head(revision: IgvmRevision, rows: [u16; 3]) -> [u8; HEAD_BYTES] {
+    let (revision, arch, page_size) = match revision {
+        IgvmRevision::V1 => (1, Arch::X64, 0),
+        IgvmRevision::V2 { arch, page_size } => (2, arch, page_size),
+    };
+    fields![u8: revision, u8: arch as u8, u16: 0, u32: page_size, u16: rows[0], u16: rows[1], u16: rows[2], u16: 0]
+}
+
+/// What is still to be written of a sheet's table of contents and of its bodies.
+struct Writer<'a> {
+    table: &'a mut [u8],
+    bodies: &'a mut [u8],
+}
+
+impl<'a> Writer<'a> {
+    fn new(sheet: &'a mut [u8], counts: &[Count; 3]) -> Self {
+        let rows: usize = counts.iter().map(|count| count.rows).sum();
+        let (table, bodies) = sheet[HEAD_BYTES..].split_at_mut(ENTRY_BYTES * rows);
+        Writer { table, bodies }
+    }
+
+    fn finish(self) {
+        assert!(self.table.is_empty() && self.bodies.is_empty(), "{CHANGED}");
+    }
+}
+
+impl Rows for Writer<'_> {
+    #[inline]
+    fn row<const FIELDS: usize>(&mut self, kind: u32, fields: [u8; FIELDS], opaque: &[u8]) {
+        let length = u32::try_from(FIELDS + opaque.len()).expect(CHANGED);
+        put(&mut self.table, &fields![u32: kind, u32: length]);
+        put(&mut self.bodies, &fields);
+        put(&mut self.bodies, opaque);
+    }
+}
+
+fn platform_row(rows: &mut impl Rows, header: &IgvmPlatformHeader) {
     let IgvmPlatformHeader::SupportedPlatform(info) = header;
-    Row::new(1)
-        .u32(info.compatibility_mask)
-        .u8(info.highest_vtl)
-        .u8(info.platform_type.0)
-        .u16(info.platform_version)
-        .u64(info.shared_gpa_boundary)
+    let fields = fields![
+        u32: info.compatibility_mask,
+        u8: info.highest_vtl,
+        u8: info.platform_type.0,
+        u16: info.platform_version,
+        u64: info.shared_gpa_boundary
+    ];
+    rows.row(1, fields, &[]);
 }
 
-fn initialization_row(header: &IgvmInitializationHeader) -> Row<'_> {
+fn initialization_row(rows: &mut impl Rows, header: &IgvmInitializationHeader) {
     use IgvmInitializationHeader::*;
     match *header {
-        GuestPolicy { policy, compatibility_mask } => Row::new(16).u64(policy).u32(compatibility_mask),
-        CcaPolicy { compatibility_mask, attributes_required_zeroes, attributes_required_ones, hash_algorithm, lfa_policy } => Row::new(17)
-            .u32(compatibility_mask)
-            .u64(attributes_required_zeroes)
-            .u64(attributes_required_ones)
-            .u8(hash_algorithm)
-            .u8(lfa_policy),
+        GuestPolicy { policy, compatibility_mask: mask } => rows.row(16, fields![u64: policy, u32: mask], &[]),
+        CcaPolicy {
+            compatibility_mask: mask,
+            attributes_required_zeroes: zeroes,
+            attributes_required_ones: ones,
+            hash_algorithm,
+            lfa_policy,
+        } => rows.row(17, fields![u32: mask, u64: zeroes, u64: ones, u8: hash_algorithm, u8: lfa_policy], &[]),
         RelocatableRegion {
             compatibility_mask,
             relocation_alignment,
@@ -154,75 +274,95 @@ fn initialization_row(header: &IgvmInitializationHeader) -> Row<'_> {
             apply_gdtr_offset,
             vp_index,
             vtl,
-        } => Row::new(18)
-            .u32(compatibility_mask)
-            .u64(relocation_alignment)
-            .u64(relocation_region_gpa)
-            .u64(relocation_region_size)
-            .u64(minimum_relocation_gpa)
-            .u64(maximum_relocation_gpa)
-            .u8(u8::from(is_vtl2) | u8::from(apply_rip_offset) << 1 | u8::from(apply_gdtr_offset) << 2)
-            .u16(vp_index)
-            .vtl(vtl),
-        PageTableRelocationRegion { compatibility_mask, gpa, size, used_size, vp_index, vtl } => {
-            Row::new(19).u32(compatibility_mask).u64(gpa).u64(size).u64(used_size).u16(vp_index).vtl(vtl)
+        } => {
+            let fields = fields![
+                u32: compatibility_mask,
+                u64: relocation_alignment,
+                u64: relocation_region_gpa,
+                u64: relocation_region_size,
+                u64: minimum_relocation_gpa,
+                u64: maximum_relocation_gpa,
+                u8: region_flags(is_vtl2, apply_rip_offset, apply_gdtr_offset),
+                u16: vp_index,
+                u8: vtl.code()
+            ];
+            rows.row(18, fields, &[])
         }
+        PageTableRelocationRegion { compatibility_mask: mask, gpa, size, used_size, vp_index, vtl } => {
+            rows.row(19, fields![u32: mask, u64: gpa, u64: size, u64: used_size, u16: vp_index, u8: vtl.code()], &[])
+        }
+        Unknown => rows.row(0, [], &[]),
     }
 }
 
-fn directive_row(header: &IgvmDirectiveHeader) -> Row<'_> {
+#[inline]
+fn directive_row<Bytes: AsRef<[u8]>>(rows: &mut impl Rows, header: &IgvmDirectiveHeader<Bytes>) {
     use IgvmDirectiveHeader::*;
     match header {
-        PageData { gpa, compatibility_mask, flags, data_type, data } => {
-            Row::new(32).u64(*gpa).u32(*compatibility_mask).u32(*flags).u16(data_type.0).opaque(data)
+        PageData { gpa, compatibility_mask: mask, flags, data_type, data } => {
+            rows.row(32, fields![u64: *gpa, u32: *mask, u32: *flags, u16: data_type.0], data.as_ref())
         }
-        ParameterArea { number_of_bytes, parameter_area_index, initial_data } => {
-            Row::new(33).u64(*number_of_bytes).u32(*parameter_area_index).opaque(initial_data)
+        ParameterArea { number_of_bytes, parameter_area_index: area, initial_data } => {
+            rows.row(33, fields![u64: *number_of_bytes, u32: *area], initial_data.as_ref())
         }
-        VpCount(parameter) => parameter_row(34, parameter),
-        EnvironmentInfo(parameter) => parameter_row(35, parameter),
-        Srat(parameter) => parameter_row(36, parameter),
-        Madt(parameter) => parameter_row(37, parameter),
-        Slit(parameter) => parameter_row(38, parameter),
-        Pptt(parameter) => parameter_row(39, parameter),
-        MmioRanges(parameter) => parameter_row(40, parameter),
-        MemoryMap(parameter) => parameter_row(41, parameter),
-        CommandLine(parameter) => parameter_row(42, parameter),
-        DeviceTree(parameter) => parameter_row(43, parameter),
-        RequiredMemory { gpa, compatibility_mask, number_of_bytes, vtl2_protectable } => {
-            Row::new(44).u64(*gpa).u32(*compatibility_mask).u32(*number_of_bytes).u8(u8::from(*vtl2_protectable))
+        VpCount(parameter) => parameter_row(rows, 34, parameter),
+        EnvironmentInfo(parameter) => parameter_row(rows, 35, parameter),
+        Srat(parameter) => parameter_row(rows, 36, parameter),
+        Madt(parameter) => parameter_row(rows, 37, parameter),
+        Slit(parameter) => parameter_row(rows, 38, parameter),
+        Pptt(parameter) => parameter_row(rows, 39, parameter),
+        MmioRanges(parameter) => parameter_row(rows, 40, parameter),
+        MemoryMap(parameter) => parameter_row(rows, 41, parameter),
+        CommandLine(parameter) => parameter_row(rows, 42, parameter),
+        DeviceTree(parameter) => parameter_row(rows, 43, parameter),
+        RequiredMemory { gpa, compatibility_mask: mask, number_of_bytes, vtl2_protectable } => {
+            rows.row(44, fields![u64: *gpa, u32: *mask, u32: *number_of_bytes, u8: u8::from(*vtl2_protectable)], &[])
         }
-        SnpVpContext { gpa, compatibility_mask, vp_index, vmsa } => {
-            Row::new(45).u64(*gpa).u32(*compatibility_mask).u16(*vp_index).opaque(vmsa)
+        SnpVpContext { gpa, compatibility_mask: mask, vp_index, vmsa } => {
+            rows.row(45, fields![u64: *gpa, u32: *mask, u16: *vp_index], vmsa.as_ref())
         }
-        X64NativeVpContext { compatibility_mask, vp_index, context } => {
-            Row::new(46).u32(*compatibility_mask).u16(*vp_index).opaque(context)
+        X64NativeVpContext { compatibility_mask: mask, vp_index, context } => {
+            rows.row(46, fields![u32: *mask, u16: *vp_index], context.as_ref())
         }
-        X64VbsVpContext { vtl, registers, compatibility_mask } => Row::new(47).u32(*compatibility_mask).vtl(*vtl).opaque(registers),
-        AArch64VbsVpContext { vtl, registers, compatibility_mask } => Row::new(48).u32(*compatibility_mask).vtl(*vtl).opaque(registers),
-        AArch64CcaVpContext { compatibility_mask, vp_index, context } => {
-            Row::new(49).u32(*compatibility_mask).u16(*vp_index).opaque(context)
+        X64VbsVpContext { vtl, registers, compatibility_mask: mask } => {
+            rows.row(47, fields![u32: *mask, u8: vtl.code()], registers.as_ref())
         }
-        ParameterInsert(insert) => Row::new(50).u64(insert.gpa).u32(insert.compatibility_mask).u32(insert.parameter_area_index),
-        ErrorRange { gpa, compatibility_mask, size_bytes } => Row::new(51).u64(*gpa).u32(*compatibility_mask).u32(*size_bytes),
-        SnpIdBlock { compatibility_mask, opaque } => Row::new(52).u32(*compatibility_mask).opaque(opaque),
-        VbsMeasurement { compatibility_mask, opaque } => Row::new(53).u32(*compatibility_mask).opaque(opaque),
+        AArch64VbsVpContext { vtl, registers, compatibility_mask: mask } => {
+            rows.row(48, fields![u32: *mask, u8: vtl.code()], registers.as_ref())
+        }
+        AArch64CcaVpContext { compatibility_mask: mask, vp_index, context } => {
+            rows.row(49, fields![u32: *mask, u16: *vp_index], context.as_ref())
+        }
+        ParameterInsert(insert) => {
+            rows.row(50, fields![u64: insert.gpa, u32: insert.compatibility_mask, u32: insert.parameter_area_index], &[])
+        }
+        ErrorRange { gpa, compatibility_mask: mask, size_bytes } => rows.row(51, fields![u64: *gpa, u32: *mask, u32: *size_bytes], &[]),
+        SnpIdBlock { compatibility_mask: mask, opaque } => rows.row(52, fields![u32: *mask], opaque.as_ref()),
+        VbsMeasurement { compatibility_mask: mask, opaque } => rows.row(53, fields![u32: *mask], opaque.as_ref()),
     }
 }
 
-fn parameter_row(kind: u32, parameter: &IGVM_VHS_PARAMETER) -> Row<'static> {
-    Row::new(kind).u32(parameter.parameter_area_index).u32(parameter.byte_offset)
+fn parameter_row(rows: &mut impl Rows, kind: u32, parameter: &IGVM_VHS_PARAMETER) {
+    rows.row(kind, fields![u32: parameter.parameter_area_index, u32: parameter.byte_offset], &[]);
 }
 
 #[cfg(test)]
 mod tests {
     use super::*;
 
+    fn counted(bodies: &[usize]) -> Count {
+        let mut count = Count::new(List::Directive);
+        bodies.iter().for_each(|&bytes| count.body(bytes));
+        count
+    }
+
     #[test]
     fn a_body_of_2_to_the_32_bytes_is_too_long() {
-        assert_eq!(body_lengths([5, 0xFFFF_FFFF].into_iter()), Ok(vec![5, 0xFFFF_FFFF]));
-        let error = body_lengths([5, 0xFFFF_FFFF, 0x1_0000_0000].into_iter()).unwrap_err();
-        assert_eq!(error, SheetError::BodyTooLong { row: 3, bytes: 0x1_0000_0000 });
-        assert_eq!(error.to_string(), "the body of row 3 has 4294967296 bytes, of which a sheet holds at most 4294967295");
+        let longest = counted(&[5, 0xFFFF_FFFF]);
+        assert_eq!((longest.rows, longest.bytes, longest.bodies_fit()), (2, 0x1_0000_0004, Ok(())));
+        let error = counted(&[5, 0x1_0000_0000, 0xFFFF_FFFF, 0x1_0000_0001]).bodies_fit().unwrap_err();
+        let place = Place { list: List::Directive, index: 1 };
+        assert_eq!(error, SheetError::BodyTooLong { place, bytes: 0x1_0000_0000 });
+        assert_eq!(error.to_string(), "the body of directive header 1 has 4294967296 bytes, of which a sheet holds at most 4294967295");
     }
 }

@@ -168,13 +168,6 @@ fn context_rows_have_their_layout() {
 
 #[test]
 fn the_library_reads_each_row_where_it_was_written() {
-    let page = |gpa| IgvmDirectiveHeader::PageData {
-        gpa,
-        compatibility_mask: 1,
-        flags: 0,
-        data_type: IgvmPageDataType::NORMAL,
-        data: b"page".to_vec(),
-    };
     let mut sheet = image_b();
     sheet.platform_headers.push(IgvmPlatformHeader::SupportedPlatform(IGVM_VHS_SUPPORTED_PLATFORM {
         platform_type: IgvmPlatformType::SEV_SNP,
@@ -184,7 +177,8 @@ fn the_library_reads_each_row_where_it_was_written() {
     sheet.initialization_headers.push(region(0x10_2000, 0x1000));
     sheet.directive_headers.extend([page(0x1000), page(0x2001)]);
     let refusal = verdict(&sheet.bytes().unwrap()).unwrap_err();
-    assert_eq!(refusal, Refusal { error: Error::UnalignedAddress, row: Some(7), detail: 0x2001 });
+    assert_eq!((refusal.error, refusal.row, refusal.detail), (Error::UnalignedAddress, Some(7), 0x2001));
+    assert_eq!(refusal.place, Some(Place { list: List::Directive, index: 2 }));
     sheet.directive_headers.pop();
     assert_eq!(verdict(&sheet.bytes().unwrap()).unwrap().line(), "accepted 2 2 2");
 }
@@ -197,7 +191,104 @@ fn the_builder_writes_what_the_library_refuses() {
     let page_size = IgvmRevision::V2 { arch: Arch::X64, page_size: 8192 };
     assert_eq!(refused(Sheet { revision: page_size, ..image_b() }).line(), "refused 7 row 0 detail 8192");
     let gpa = refused(image_with(region(0x10_0800, 0x2000)));
-    assert_eq!(gpa, Refusal { error: Error::RelocationAddress, row: Some(2), detail: 0x10_0800 });
+    assert_eq!((gpa.error, gpa.row, gpa.detail), (Error::RelocationAddress, Some(2), 0x10_0800));
+    let unknown = refused(image_with(IgvmInitializationHeader::Unknown));
+    assert_eq!((unknown.error, unknown.row), (Error::InvalidKind, Some(2)));
+}
+
+/// Image B with more platforms and regions, and pages in front of its context.
+fn long_lists() -> Sheet {
+    let types = [IgvmPlatformType::NATIVE, IgvmPlatformType::SEV_SNP, IgvmPlatformType::TDX];
+    let with_type = |platform_type| IgvmPlatformHeader::SupportedPlatform(IGVM_VHS_SUPPORTED_PLATFORM { platform_type, ..platform() });
+    let mut sheet = Sheet { platform_headers: types.map(with_type).to_vec(), ..image_b() };
+    sheet.initialization_headers = (0..4).map(|number| region(0x2000 * number, 0x2000)).collect();
+    sheet.directive_headers.splice(..0, (0..5).map(|number| page(0x1000 * number)));
+    sheet
+}
+
+fn page(gpa: u64) -> IgvmDirectiveHeader {
+    IgvmDirectiveHeader::PageData { gpa, compatibility_mask: 1, flags: 0, data_type: IgvmPageDataType::NORMAL, data: b"page".to_vec() }
+}
+
+#[test]
+fn a_refusals_place_is_the_headers_index_in_its_list() {
+    assert_eq!(verdict(&long_lists().bytes().unwrap()).unwrap().line(), "accepted 3 4 6");
+    let place_of = |change: &dyn Fn(&mut Sheet)| {
+        let mut sheet = long_lists();
+        change(&mut sheet);
+        verdict(&sheet.bytes().unwrap()).unwrap_err().place
+    };
+    let wrong_platform = IgvmPlatformHeader::SupportedPlatform(IGVM_VHS_SUPPORTED_PLATFORM { highest_vtl: 1, ..platform() });
+    for index in 0..3 {
+        let place = place_of(&|sheet| sheet.platform_headers[index] = wrong_platform.clone());
+        assert_eq!(place, Some(Place { list: List::Platform, index }));
+    }
+    for index in 0..4 {
+        let place = place_of(&|sheet| sheet.initialization_headers[index] = region(0, 0x1001));
+        assert_eq!(place, Some(Place { list: List::Initialization, index }));
+    }
+    for index in 0..6 {
+        let place = place_of(&|sheet| sheet.directive_headers[index] = page(1));
+        assert_eq!(place, Some(Place { list: List::Directive, index }));
+    }
+    assert_eq!(place_of(&|sheet| sheet.directive_headers.truncate(5)), None, "34 is of the sheet as a whole");
+}
+
+#[test]
+fn lent_bytes_make_the_same_sheet() {
+    let sheet = long_lists();
+    let (data, registers) = (b"page".as_slice(), [].as_slice());
+    let pages = (0..5).map(|number| IgvmDirectiveHeader::PageData {
+        gpa: 0x1000 * number,
+        compatibility_mask: 1,
+        flags: 0,
+        data_type: IgvmPageDataType::NORMAL,
+        data,
+    });
+    let context = IgvmDirectiveHeader::X64VbsVpContext { vtl: Vtl::Vtl0, registers, compatibility_mask: 1 };
+    let bytes = sheet_bytes(sheet.revision, &sheet.platform_headers, sheet.initialization_headers.clone(), pages.chain([context]));
+    assert_eq!(bytes, sheet.bytes());
+}
+
+/// A list that gives the first of two headers when it is gone through first, and the second one then.
+#[derive(Clone)]
+struct Unsteady<'a> {
+    asked: &'a std::cell::Cell<usize>,
+    headers: [IgvmInitializationHeader; 2],
+}
+
+impl Iterator for Unsteady<'_> {
+    type Item = IgvmInitializationHeader;
+
+    fn next(&mut self) -> Option<IgvmInitializationHeader> {
+        let asked = self.asked.replace(self.asked.get() + 1);
+        (asked % 2 == 0).then(|| self.headers[asked / 2].clone())
+    }
+}
+
+fn written(headers: [IgvmInitializationHeader; 2]) -> Vec<u8> {
+    let list = Unsteady { asked: &std::cell::Cell::new(0), headers };
+    sheet_bytes(IgvmRevision::V1, image_b().platform_headers, list, image_b().directive_headers).unwrap()
+}
+
+const POLICY: IgvmInitializationHeader = IgvmInitializationHeader::GuestPolicy { policy: 0, compatibility_mask: 1 };
+
+#[test]
+fn a_list_is_gone_through_twice() {
+    let sheet = image_with(region(0x10_0000, 0x2000)).bytes().unwrap();
+    assert_eq!(written([region(0, 0x1000), region(0x10_0000, 0x2000)]), sheet);
+}
+
+#[test]
+#[should_panic = "a list of headers changed while it was written"]
+fn a_list_that_grows_is_no_sheet() {
+    written([POLICY, region(0, 0x1000)]);
+}
+
+#[test]
+#[should_panic = "a list of headers changed while it was written"]
+fn a_list_that_shrinks_is_no_sheet() {
+    written([region(0, 0x1000), POLICY]);
 }
 
 #[test]
@@ -207,12 +298,12 @@ fn a_list_of_65536_rows_can_not_be_written() {
     assert_eq!(verdict(&sheet.bytes().unwrap()).unwrap_err().error, Error::LimitExceeded);
     sheet.initialization_headers.push(region(0, 0x1000));
     let error = sheet.bytes().unwrap_err();
-    assert_eq!(error, SheetError::TooManyRows { list: "initialization", rows: 65_536 });
+    assert_eq!(error, SheetError::TooManyRows { list: List::Initialization, rows: 65_536 });
     assert_eq!(error.to_string(), "65536 initialization rows, of which a sheet holds at most 65535");
     let platforms = vec![IgvmPlatformHeader::SupportedPlatform(platform()); 65_536];
     let error = Sheet { platform_headers: platforms, ..image_b() }.bytes().unwrap_err();
-    assert_eq!(error, SheetError::TooManyRows { list: "platform", rows: 65_536 });
+    assert_eq!(error, SheetError::TooManyRows { list: List::Platform, rows: 65_536 });
     let contexts = vec![image_b().directive_headers.remove(0); 65_536];
     let error = Sheet { directive_headers: contexts, ..image_b() }.bytes().unwrap_err();
-    assert_eq!(error, SheetError::TooManyRows { list: "directive", rows: 65_536 });
+    assert_eq!(error, SheetError::TooManyRows { list: List::Directive, rows: 65_536 });
 }

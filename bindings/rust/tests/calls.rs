@@ -45,7 +45,7 @@ fn error_of<T: std::fmt::Debug>(answer: Result<T, Refusal>) -> Error {
 #[test]
 fn the_counts_are_those_of_the_lists() {
     let counts = verdict(&several()).unwrap();
-    assert_eq!(counts, Counts { platform_headers: 1, initialization_headers: 3, directive_headers: 2 });
+    assert_eq!((counts.platform_headers, counts.initialization_headers, counts.directive_headers), (1, 3, 2));
 }
 
 #[test]
@@ -66,15 +66,15 @@ fn regions_come_with_every_field_in_header_order() {
     assert_eq!(found.regions.len(), 2);
     assert_eq!(found.regions[0], first);
     assert_eq!((found.regions[1].base_gpa, found.regions[1].is_vtl2, found.regions[1].apply_gdtr_offset), (0x10_0000, false, false));
-    let page_table = PageTableRegion { gpa: 0x90_0000, size: 0x5000, used_size: 0x3000, vp_index: 0, vtl: Vtl::Vtl2 };
-    assert_eq!(found.page_table, Some(page_table));
+    let table = found.page_table.unwrap();
+    assert_eq!((table.gpa, table.size, table.used_size, table.vp_index, table.vtl), (0x90_0000, 0x5000, 0x3000, 0, Vtl::Vtl2));
 }
 
 #[test]
 fn a_header_matches_where_its_mask_holds_every_bit() {
     assert_eq!(relocations(&several(), 3).unwrap().regions.len(), 1);
     let none = relocations(&several(), 4).unwrap();
-    assert_eq!(none, Relocations { regions: vec![], page_table: None });
+    assert_eq!((none.regions, none.page_table), (vec![], None));
     assert_eq!(relocations(&image_b().bytes().unwrap(), 1).unwrap().page_table, None);
 }
 
@@ -162,8 +162,95 @@ fn a_region_is_named_by_its_number_from_0() {
 }
 
 #[test]
+fn a_region_says_by_itself_what_its_sheet_says_of_it() {
+    let sheet = several();
+    for mask in 1..4 {
+        for (number, region) in (0..).zip(&relocations(&sheet, mask).unwrap().regions) {
+            let IgvmRelocatableRegion { base_gpa, size, minimum_relocation_gpa: minimum, maximum_relocation_gpa: maximum, .. } = *region;
+            let marks = [base_gpa, base_gpa + size, minimum, maximum - size, maximum, 0, 0x4000];
+            let near = marks.into_iter().flat_map(|mark| [mark, mark.wrapping_sub(1), mark + 1, mark.wrapping_sub(0x1000), mark + 0x1000]);
+            for at in near {
+                assert_eq!(region.relocation_base_valid(at), relocation_base_valid(&sheet, mask, number, at).unwrap(), "{at:#x}");
+                assert_eq!(region.contains(at), contains(&sheet, mask, number, at).unwrap(), "{at:#x}");
+            }
+        }
+    }
+}
+
+/// A region of these numbers, with every flag, the highest VP index and the highest VTL.
+fn loose(
+    base_gpa: u64,
+    size: u64,
+    relocation_alignment: u64,
+    minimum_relocation_gpa: u64,
+    maximum_relocation_gpa: u64,
+) -> IgvmRelocatableRegion {
+    IgvmRelocatableRegion {
+        base_gpa,
+        size,
+        relocation_alignment,
+        minimum_relocation_gpa,
+        maximum_relocation_gpa,
+        is_vtl2: true,
+        apply_rip_offset: true,
+        apply_gdtr_offset: true,
+        vp_index: u16::MAX,
+        vtl: Vtl::Vtl2,
+    }
+}
+
+#[test]
+fn a_regions_sums_are_exact() {
+    let region = loose(0xFFFF_FFFF_FFFF_F000, 0x2000, 0x1000, 0, u64::MAX);
+    assert!(region.contains(u64::MAX) && !region.contains(0xFFFF_FFFF_FFFF_EFFF));
+    assert!(!region.contains(0) && !region.contains(0xFFF), "the end is not cut to 64 bits");
+    assert!(!region.relocation_base_valid(0xFFFF_FFFF_FFFF_F000) && !region.relocation_base_valid(0xFFFF_FFFF_FFFF_E000));
+    assert!(region.relocation_base_valid(0xFFFF_FFFF_FFFF_D000), "the end is 2^64 - 0x1000");
+    let unaligned = loose(0, 0, 0, 0, u64::MAX);
+    assert!(unaligned.relocation_base_valid(0) && !unaligned.relocation_base_valid(0x1000), "alignment 0 does not panic");
+}
+
+#[test]
+fn a_regions_methods_are_the_sums_in_128_bits() {
+    let mut state = 1;
+    let (mut valid, mut contained) = (0, 0);
+    for _ in 0..100_000 {
+        let [base, size, alignment, minimum, maximum, at] = [(); 6].map(|()| random_gpa(&mut state));
+        let region = loose(base, size, alignment.max(1), minimum, maximum);
+        let [size, maximum] = [size, maximum].map(u128::from);
+        let expected = at % alignment.max(1) == 0 && minimum <= at && u128::from(at) + size <= maximum;
+        assert_eq!(region.relocation_base_valid(at), expected, "{region:x?} {at:#x}");
+        let inside = base <= at && u128::from(at) < u128::from(base) + size;
+        assert_eq!(region.contains(at), inside, "{region:x?} {at:#x}");
+        (valid, contained) = (valid + u32::from(expected), contained + u32::from(inside));
+    }
+    assert!(valid > 1000 && valid < 99_000 && contained > 1000 && contained < 99_000, "{valid} {contained}");
+}
+
+/// A small number, one near 2^64, or a power of two.
+fn random_gpa(state: &mut u64) -> u64 {
+    *state = state.wrapping_mul(6364136223846793005).wrapping_add(1442695040888963407);
+    let number = *state >> 33;
+    match number % 3 {
+        0 => number / 3 % 8,
+        1 => u64::MAX - number / 3 % 8,
+        _ => 1 << (number / 3 % 64),
+    }
+}
+
+#[test]
+fn a_regions_words_make_the_region_again() {
+    for region in relocations(&several(), 1).unwrap().regions.into_iter().chain([loose(1, 2 << 40, 3, 4, u64::MAX)]) {
+        assert_eq!(IgvmRelocatableRegion::from_words(&region.to_words()), Some(region));
+    }
+    let mut lent = [0; 2 * REGION_BYTES];
+    relocations_into(&several(), 1, &mut lent).unwrap();
+    assert_eq!(lent[..REGION_BYTES], relocations(&several(), 1).unwrap().regions[0].to_words());
+}
+
+#[test]
 fn empty_input_is_refused_by_every_call() {
-    let refusal = Refusal { error: Error::SheetEndsEarly, row: None, detail: 0 };
+    let refusal = Refusal::from_numbers(1, 0, 0);
     assert_eq!(verdict(&[]), Err(refusal));
     assert_eq!(relocations(&[], 1), Err(refusal));
     assert_eq!(relocations_into(&[], 1, &mut []), Err(refusal));

@@ -1,0 +1,44 @@
+//! A sheet is one allocation, of its length, and the calls allocate nothing but a list of regions.
+
+mod common;
+mod counting;
+
+use common::{image_b, region};
+use counting::counted;
+use sapyullu::*;
+/// Image B with 64 regions and 20 pages of 4096 bytes.
+fn large() -> Sheet {
+    let page = |number: u64| IgvmDirectiveHeader::PageData {
+        gpa: 0x1000 * number,
+        compatibility_mask: 1,
+        flags: 0,
+        data_type: IgvmPageDataType::NORMAL,
+        data: vec![7; 4096],
+    };
+    let mut sheet = image_b();
+    sheet.initialization_headers = (0..64).map(|number| region(0x2000 * number, 0x2000)).collect();
+    sheet.directive_headers.extend((0..20).map(page));
+    sheet
+}
+
+#[test]
+fn a_sheet_is_one_allocation_of_its_length() {
+    let sheet = large();
+    let (bytes, made) = counted(|| sheet.bytes().unwrap());
+    assert!(bytes.len() > 20 * 4096);
+    assert_eq!((made, bytes.capacity()), (vec![bytes.len()], bytes.len()));
+}
+
+#[test]
+fn a_list_of_regions_is_one_allocation_and_other_answers_are_none() {
+    let sheet = large().bytes().unwrap();
+    let (found, made) = counted(|| relocations(&sheet, 1).unwrap());
+    assert_eq!((found.regions.len(), made.len()), (64, 1));
+    let region = &found.regions[0];
+    let (answers, made) = counted(|| {
+        let checks = relocation_base_valid(&sheet, 1, 0, 0).unwrap() && contains(&sheet, 1, 0, 0).unwrap();
+        checks && verdict(&sheet).is_ok() && verdict(&[]).is_err() && region.contains(0) && region.relocation_base_valid(0)
+    });
+    assert!(answers);
+    assert_eq!(made, []);
+}
