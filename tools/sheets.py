@@ -639,8 +639,8 @@ One sheet for each refusal and some that are accepted. `admit` answers the verdi
 
     rt check admit && target/bin/admit < samples/19-alignment-zero.sheet
 
-The verdict accepts the last three; it is the call beside them that is refused (`lent` is in bytes). `tools/sheets.py --samples` writes this folder, and
-`tools/sheets.py --check` holds it to the samples and the lines of its list.
+The verdict accepts the last three; it is the call beside them that is refused (`lent` is in bytes). `docs/SHEET.md` says how a sheet is written, `docs/REFUSALS.md` what each
+refusal means and how to mend it. `tools/sheets.py --samples` writes this folder, and `tools/sheets.py --check` holds it to the samples and the lines of its list.
 
 | file | call | answer | what it shows |
 |---|---|---|---|
