@@ -1,1 +1,3 @@
 mod RegionLaws
+mod WordLaws
+pub mod AgreementLaws
