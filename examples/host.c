@@ -1,5 +1,5 @@
 /* A host that reads a sheet from standard input, asks for the verdict, and for a mask (the argument, in hexadecimal digits; 1 without it) its regions,
- * whether each may stay where it is, and its page-table region. */
+ * whether each may stay where it is, and its page-table region. One call for each answer. Status 0: accepted; 1: refused; 2: no input. */
 #include <inttypes.h>
 #include <stdio.h>
 #include <stdlib.h>
@@ -7,56 +7,55 @@
 #include "igvm.h"
 
 /* One byte more than the longest sheet, so that a longer input is refused, not cut. */
-static uint8_t sheet[16777217];
-static size_t n;
-static uint32_t mask = 1;
+static uint8_t sheet[IGVM_MAX_SHEET_BYTES + 1];
 
-/* As many regions as a sheet can have, 64 bytes each. */
-static uint8_t words[64 * 64];
+/* As many regions as a sheet can have. */
+static uint8_t words[IGVM_REGION_BYTES * IGVM_MAX_INITIALIZATION_ROWS];
 
-static uint64_t relocations(uint32_t which) { return igvm_relocations(sheet, n, mask, words, sizeof words, which); }
+static uint8_t numbers[8 * IGVM_RELOCATIONS_NUMBERS];
 
-static uint64_t word_at(size_t k) {
+/* Word k of lent bytes. */
+static uint64_t word(const uint8_t *bytes, size_t k) {
     uint64_t v = 0;
-    for (int i = 7; i >= 0; i--) v = v << 8 | words[8 * k + i];
+    for (size_t i = 8; i-- > 0;) v = v << 8 | bytes[8 * k + i];
     return v;
 }
 
-static int refused(uint64_t number, uint64_t row, uint64_t detail) {
-    printf("refused %" PRIu64 " row %" PRIu64 " detail %" PRIu64 "\n", number, row, detail);
+static uint64_t number(size_t which) { return word(numbers, which); }
+
+static int refused(void) {
+    printf("refused %" PRIu64 " row %" PRIu64 " detail %" PRIu64 "\n", number(IGVM_NUMBER), number(IGVM_ROW), number(IGVM_DETAIL));
     return 1;
 }
 
 static void print_region(uint64_t k) {
-    uint64_t base = word_at(8 * k);
-    printf("region %" PRIu64 ": base 0x%" PRIx64 " size 0x%" PRIx64 ", may stay: %" PRIu64 ", holds its base: %" PRIu64 "\n", k, base, word_at(8 * k + 1),
-           igvm_relocation_base_valid(sheet, n, mask, k, base, IGVM_VALID), igvm_contains(sheet, n, mask, k, base, IGVM_CONTAINED));
+    const uint8_t *region = words + IGVM_REGION_BYTES * k;
+    uint64_t base = word(region, 0);
+    printf("region %" PRIu64 ": base 0x%" PRIx64 " size 0x%" PRIx64 ", may stay: %" PRIu64 ", holds its base: %" PRIu64 "\n", k, base, word(region, 1),
+           igvm_region_base_valid(region, IGVM_REGION_BYTES, base), igvm_region_contains(region, IGVM_REGION_BYTES, base));
 }
 
-static int answer(void) {
-    uint64_t number = igvm_verdict(sheet, n, IGVM_NUMBER);
-    if (number != 0) return refused(number, igvm_verdict(sheet, n, IGVM_ROW), igvm_verdict(sheet, n, IGVM_DETAIL));
-    printf("accepted %" PRIu64 " %" PRIu64 " %" PRIu64 "\n", igvm_verdict(sheet, n, IGVM_PLATFORM_ROWS),
-           igvm_verdict(sheet, n, IGVM_INITIALIZATION_ROWS), igvm_verdict(sheet, n, IGVM_DIRECTIVE_ROWS));
-    number = relocations(IGVM_NUMBER);
-    if (number != 0) return refused(number, relocations(IGVM_ROW), relocations(IGVM_DETAIL));
-    uint64_t count = relocations(IGVM_COUNT);
-    for (uint64_t k = 0; k < count; k++) print_region(k);
-    if (relocations(IGVM_PAGE_TABLE))
-        printf("page table: gpa 0x%" PRIx64 " size 0x%" PRIx64 " used 0x%" PRIx64 "\n", relocations(IGVM_GPA), relocations(IGVM_SIZE), relocations(IGVM_USED_SIZE));
+static int answer(size_t n, uint32_t mask) {
+    if (igvm_verdict_numbers(sheet, n, numbers, sizeof numbers) != IGVM_ACCEPTED) return refused();
+    printf("accepted %" PRIu64 " %" PRIu64 " %" PRIu64 "\n", number(IGVM_PLATFORM_ROWS), number(IGVM_INITIALIZATION_ROWS), number(IGVM_DIRECTIVE_ROWS));
+    if (igvm_relocations_numbers(sheet, n, mask, words, sizeof words, numbers, sizeof numbers) != IGVM_ACCEPTED) return refused();
+    for (uint64_t k = 0; k < number(IGVM_COUNT); k++) print_region(k);
+    if (number(IGVM_PAGE_TABLE))
+        printf("page table: gpa 0x%" PRIx64 " size 0x%" PRIx64 " used 0x%" PRIx64 "\n", number(IGVM_GPA), number(IGVM_SIZE), number(IGVM_USED_SIZE));
     return 0;
 }
 
 int main(int argc, char **argv) {
-    if (argc > 1) {
-        char *end;
-        unsigned long given = strtoul(argv[1], &end, 16);
-        if (end == argv[1] || *end != 0 || given > UINT32_MAX) {
-            fprintf(stderr, "usage: host [MASK] < SHEET\n");
-            return 2;
-        }
-        mask = given;
+    char *end = NULL;
+    unsigned long mask = argc > 1 ? strtoul(argv[1], &end, 16) : 1;
+    if (argc > 2 || (end && (end == argv[1] || *end != 0)) || mask > UINT32_MAX) {
+        fprintf(stderr, "usage: host [MASK] < SHEET\n");
+        return 2;
     }
-    n = fread(sheet, 1, sizeof sheet, stdin);
-    return answer();
+    size_t n = fread(sheet, 1, sizeof sheet, stdin);
+    if (ferror(stdin)) {
+        fprintf(stderr, "the input can't be read\n");
+        return 2;
+    }
+    return answer(n, (uint32_t)mask);
 }

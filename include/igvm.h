@@ -1,8 +1,18 @@
-/* The calls of libigvm.a (`rt staticlib igvm`). Each takes the bytes of a sheet and returns number `which` of its answer, and 0 where the answer has no
- * such number. No call asks anything of its caller: any bytes, any numbers. An empty slice may be null.
+/* The calls of libigvm.a (`rt staticlib igvm`), for x86-64 Linux. Sheets are described in docs/SHEET.md, refusals in docs/REFUSALS.md of the repository.
  *
- * The first three numbers of every answer are the refusal: 0 its number (0: nothing is refused), 1 the row that it names (from 1; 0 for the sheet
- * as a whole), 2 its detail. In a refusal every other number is 0, and bytes that were lent are as they were. */
+ * A call takes the bytes of a sheet and returns number `which` of its answer, and 0 where the answer has no such number. The first three numbers of every answer
+ * are the refusal: 0 its number (0: nothing is refused), 1 the row that it names (from 1; 0 for the sheet as a whole), 2 its detail. In a refusal every other
+ * number is 0, and `words` are as they were.
+ *
+ * Its sibling `.._numbers` takes lent bytes in place of `which`, puts all numbers of the answer in front of them, in a refusal too, and returns number 0. Each
+ * number is a word: eight bytes, the least significant first. Where fewer words are lent than the answer has numbers, none is put. A whole answer then costs one
+ * reading of the sheet.
+ *
+ * What a caller owes: each pointer is that of as many bytes as the length beside it says (an empty slice may be null), which no one else changes during the call;
+ * lent bytes overlap neither the sheet nor each other. Nothing is asked of the contents, and no number is out of range. Bytes that are lent behind an answer keep
+ * their contents. No byte of a sheet is read once a lent byte is written.
+ *
+ * A call keeps nothing: it allocates nothing, has no state, and ends; calls may run on several threads at once. It takes less than IGVM_STACK_BYTES of stack. */
 #ifndef IGVM_H
 #define IGVM_H
 
@@ -13,26 +23,95 @@
 extern "C" {
 #endif
 
+/* Limits: a sheet with more rows in a list, or with more bytes, is refused by IGVM_ERROR_LIMIT_EXCEEDED. */
+enum {
+    IGVM_MAX_PLATFORM_ROWS = 16,
+    IGVM_MAX_INITIALIZATION_ROWS = 64,
+    IGVM_MAX_DIRECTIVE_ROWS = 1024,
+    IGVM_MAX_SHEET_BYTES = 16777216,
+    IGVM_STACK_BYTES = 24576
+};
+
 /* Numbers that every answer has. */
 enum { IGVM_NUMBER = 0, IGVM_ROW = 1, IGVM_DETAIL = 2 };
 
-/* Whether the sheet is accepted. 3 platform rows, 4 initialization rows, 5 directive rows. */
-enum { IGVM_PLATFORM_ROWS = 3, IGVM_INITIALIZATION_ROWS = 4, IGVM_DIRECTIVE_ROWS = 5 };
-uint64_t igvm_verdict(const uint8_t *sheet, size_t sheet_len, uint32_t which);
+/* Refusals, by number. A later library may give more. */
+enum {
+    IGVM_ACCEPTED = 0,
+    IGVM_ERROR_SHEET_ENDS_EARLY = 1,
+    IGVM_ERROR_INVALID_HEAD = 2,
+    IGVM_ERROR_LIMIT_EXCEEDED = 3,
+    IGVM_ERROR_INVALID_KIND = 4,
+    IGVM_ERROR_INVALID_BODY = 5,
+    IGVM_ERROR_BYTES_LEFT_OVER = 6,
+    IGVM_ERROR_UNSUPPORTED_PAGE_SIZE = 7,
+    IGVM_ERROR_INVALID_COMPATIBILITY_MASK = 8,
+    IGVM_ERROR_INVALID_VTL = 9,
+    IGVM_ERROR_INVALID_PLATFORM_VERSION = 10,
+    IGVM_ERROR_INVALID_SHARED_GPA_BOUNDARY = 11,
+    IGVM_ERROR_INVALID_PLATFORM_TYPE = 12,
+    IGVM_ERROR_PLATFORM_ARCH_UNSUPPORTED = 13,
+    IGVM_ERROR_MULTIPLE_PLATFORM_HEADERS_WITH_SAME_ISOLATION = 14,
+    IGVM_ERROR_NO_PLATFORM_HEADERS = 15,
+    IGVM_ERROR_INVALID_ONES_ZEROES_MASKS = 16,
+    IGVM_ERROR_RELOCATION_SIZE = 17,
+    IGVM_ERROR_RELOCATION_ALIGNMENT = 18,
+    IGVM_ERROR_RELOCATION_ALIGNMENT_ZERO = 19,
+    IGVM_ERROR_RELOCATION_ADDRESS = 20,
+    IGVM_ERROR_UNALIGNED_ADDRESS = 21,
+    IGVM_ERROR_UNALIGNED_SIZE = 22,
+    IGVM_ERROR_INVALID_PAGE_TABLE_REGION_SIZE = 23,
+    IGVM_ERROR_INVALID_HEADER_ARCH = 24,
+    IGVM_ERROR_INVALID_CCA_POLICY_COMPATIBILITY_MASK = 25,
+    IGVM_ERROR_MULTIPLE_PAGE_TABLE_RELOCATION_HEADERS = 26,
+    IGVM_ERROR_REGION_SIZE_ZERO = 27,
+    IGVM_ERROR_REGION_END_TOO_HIGH = 28,
+    IGVM_ERROR_RELOCATION_REGIONS_OVERLAP = 29,
+    IGVM_ERROR_INVALID_PAGE_DATA_TYPE = 30,
+    IGVM_ERROR_INVALID_DATA_SIZE = 31,
+    IGVM_ERROR_INVALID_PARAMETER_AREA_INDEX = 32,
+    IGVM_ERROR_PARAMETER_INSERT_INSIDE_PAGE_TABLE_REGION = 33,
+    IGVM_ERROR_NO_MATCHING_VP_CONTEXT = 34,
+    IGVM_ERROR_QUERY_MASK_ZERO = 35,
+    IGVM_ERROR_NO_SUCH_REGION = 36,
+    IGVM_ERROR_TOO_FEW_WORDS_LENT = 37
+};
 
-/* The regions of a mask in header order, each as eight little-endian 64-bit words in the lent bytes: base, size, alignment, minimum, maximum, flags, VP
- * index, VTL. Bytes behind the answer keep their contents. 3 how many regions, 4 whether there is a page-table region (1 or 0), 5 its gpa, 6 its
- * size, 7 its used size, 8 its VP index, 9 its VTL. */
-enum { IGVM_COUNT = 3, IGVM_PAGE_TABLE = 4, IGVM_GPA = 5, IGVM_SIZE = 6, IGVM_USED_SIZE = 7, IGVM_VP_INDEX = 8, IGVM_VTL = 9 };
+/* Whether the sheet is accepted. 3 platform rows, 4 initialization rows, 5 directive rows. */
+enum { IGVM_PLATFORM_ROWS = 3, IGVM_INITIALIZATION_ROWS = 4, IGVM_DIRECTIVE_ROWS = 5, IGVM_VERDICT_NUMBERS = 6 };
+uint64_t igvm_verdict(const uint8_t *sheet, size_t sheet_len, uint32_t which);
+uint64_t igvm_verdict_numbers(const uint8_t *sheet, size_t sheet_len, uint8_t *numbers, size_t numbers_len);
+
+/* The regions of a mask in header order, each as eight words in the lent bytes: base, size, alignment, minimum, maximum, flags, VP index, VTL. 3 how many
+ * regions, 4 whether there is a page-table region (1 or 0), 5 its gpa, 6 its size, 7 its used size, 8 its VP index, 9 its VTL. */
+enum {
+    IGVM_COUNT = 3,
+    IGVM_PAGE_TABLE = 4,
+    IGVM_GPA = 5,
+    IGVM_SIZE = 6,
+    IGVM_USED_SIZE = 7,
+    IGVM_VP_INDEX = 8,
+    IGVM_VTL = 9,
+    IGVM_RELOCATIONS_NUMBERS = 10,
+    IGVM_REGION_BYTES = 64
+};
 uint64_t igvm_relocations(const uint8_t *sheet, size_t sheet_len, uint32_t mask, uint8_t *words, size_t words_len, uint32_t which);
+uint64_t igvm_relocations_numbers(const uint8_t *sheet, size_t sheet_len, uint32_t mask, uint8_t *words, size_t words_len, uint8_t *numbers, size_t numbers_len);
 
 /* Whether the mask's region of this number, from 0, may be moved to the base. 3 valid (1 or 0). */
-enum { IGVM_VALID = 3 };
+enum { IGVM_VALID = 3, IGVM_CHECK_NUMBERS = 4 };
 uint64_t igvm_relocation_base_valid(const uint8_t *sheet, size_t sheet_len, uint32_t mask, uint64_t region, uint64_t base, uint32_t which);
+uint64_t igvm_relocation_base_valid_numbers(const uint8_t *sheet, size_t sheet_len, uint32_t mask, uint64_t region, uint64_t base, uint8_t *numbers, size_t numbers_len);
 
 /* Whether the address lies in the mask's region of this number. 3 contained (1 or 0). */
 enum { IGVM_CONTAINED = 3 };
 uint64_t igvm_contains(const uint8_t *sheet, size_t sheet_len, uint32_t mask, uint64_t region, uint64_t gpa, uint32_t which);
+uint64_t igvm_contains_numbers(const uint8_t *sheet, size_t sheet_len, uint32_t mask, uint64_t region, uint64_t gpa, uint8_t *numbers, size_t numbers_len);
+
+/* The same two on a region's IGVM_REGION_BYTES, as igvm_relocations put them, without the sheet: 1 or 0. They answer as the calls on the sheet do; of other bytes
+ * they say what those eight words give. In fewer bytes there is no region: 0. */
+uint64_t igvm_region_base_valid(const uint8_t *region, size_t region_len, uint64_t base);
+uint64_t igvm_region_contains(const uint8_t *region, size_t region_len, uint64_t gpa);
 
 #ifdef __cplusplus
 }

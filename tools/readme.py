@@ -1,0 +1,10 @@
+#!/usr/bin/env python3
+"""The commands of README.md's shell blocks, one to a line, but for those of the gate (.ci/run), which runs for minutes, and of tools/check-hosts, which runs them."""
+import re
+import pathlib
+
+text = (pathlib.Path(__file__).resolve().parent.parent / "README.md").read_text()
+for block in re.findall(r"^```sh\n(.*?)^```", text, re.S | re.M):
+    for command in block.splitlines():
+        if command and not command.startswith("#") and ".ci/run" not in command and "check-hosts" not in command and "IGVM_SRC" not in command:
+            print(command)
