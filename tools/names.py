@@ -1,5 +1,6 @@
 #!/usr/bin/env python3
-"""Names and numbers of refusals: include/igvm.h, the Rust crate, docs/REFUSALS.md and samples must agree; and the limits of include/igvm.h are those of SheetHead."""
+"""Names and numbers of refusals: include/igvm.h, the Rust crate, docs/REFUSALS.md and samples must agree; the limits
+of include/igvm.h are those of SheetHead; and header, crate and docs/CHANGELOG.md have one version."""
 import pathlib
 import re
 import sys
@@ -35,8 +36,13 @@ limits = dict(re.findall(r"pub const (\w+): usize = (\d+);", read("crates/sheet/
 for name in ("PLATFORM_ROWS", "INITIALIZATION_ROWS", "DIRECTIVE_ROWS", "SHEET_BYTES"):
     if f"IGVM_MAX_{name} = {limits.get(name)}," not in header:
         wrong.append(f"IGVM_MAX_{name} of include/igvm.h is not SheetHead::{name}")
+version = ".".join(re.findall(r"IGVM_VERSION_\w+ = (\d+)", header))
+if f'\nversion = "{version}"\n' not in read("bindings/rust/Cargo.toml"):
+    wrong.append(f"{version} of include/igvm.h is not the crate's version")
+if re.search(r"^## (\S+):", read("docs/CHANGELOG.md"), re.M).group(1) != version:
+    wrong.append(f"{version} of include/igvm.h is not the first of docs/CHANGELOG.md")
 for line in wrong:
     print(line)
 if wrong:
     sys.exit(1)
-print(f"{len(rust)} refusals, {len(limits)} limits: header, crate, page and samples agree")
+print(f"{len(rust)} refusals, {len(limits)} limits, version {version}: header, crate, pages and samples agree")
