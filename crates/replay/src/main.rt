@@ -1,6 +1,6 @@
 // Makes the calls that a file holds, number by number as a host does, and writes a line for each: who gave the answer that it is held to, the call, its
-// numbers, and of a region list the lent bytes afterwards.
-ghost use Prim.Native.Nat.{_≤_};
+// numbers, of a region list the lent bytes afterwards, and whether the call's sibling gives all of that at once.
+ghost use Prim.Native.Nat.{_*_, _<_, _≤_};
 ghost use lib.ListN.{length};
 use libc::STDOUT_FILENO;
 use stored_calls::Call;
@@ -11,9 +11,86 @@ fn ask(c: Call, sheet: &[u8], lent: &mut [u8], which: u32) -> u64 {
         0 => igvm::igvm_verdict(sheet, which),
         1 => igvm::igvm_relocations(sheet, c.mask, lent, which),
         2 => igvm::igvm_relocation_base_valid(sheet, c.mask, c.region, c.value, which),
+        4 => igvm::igvm_region_base_valid(sheet, c.value),
+        5 => igvm::igvm_region_contains(sheet, c.value),
         _ => igvm::igvm_contains(sheet, c.mask, c.region, c.value, which),
     }
 }
+
+// ---- the sibling of the call, which puts all numbers of the answer into lent bytes, held to the numbers that the call gave one by one
+
+fn ask_all(c: Call, sheet: &[u8], words: &mut [u8], numbers: &mut [u8]) -> u64 {
+    let code = c.code;
+    match code {
+        0 => igvm::igvm_verdict_numbers(sheet, numbers),
+        1 => igvm::igvm_relocations_numbers(sheet, c.mask, words, numbers),
+        2 => igvm::igvm_relocation_base_valid_numbers(sheet, c.mask, c.region, c.value, numbers),
+        _ => igvm::igvm_contains_numbers(sheet, c.mask, c.region, c.value, numbers),
+    }
+}
+
+// Makes the call, all that it lends filled anew. Whether it returns `first`, and leaves in its words what the calls by number left in `lent`.
+fn returns_same(c: Call, sheet: &[u8], lent: &[u8], first: u64, numbers: &mut [u8]) -> bool
+    requires { ⌜ length (now lent) ≤ 4224 ⌝ }
+{
+    let n = lent.len();
+    let mut space = [0u8; 4224];
+    let words = &mut space[..n];
+    stored_calls::fill(words);
+    stored_calls::fill(numbers);
+    let number = ask_all(c, sheet, words, numbers);
+    number == first && check::same(words, lent)
+}
+
+// Whether the words in front are the numbers.
+fn words_are(b: &[u8], numbers: &[u64]) -> bool
+    requires { ⌜ 8 * length (now numbers) ≤ length (now b) ⌝ }
+{
+    let mut k = 0;
+    while k < numbers.len() {
+        if le::u64_at(b, 8 * k) != numbers[k] {
+            return false;
+        }
+        k += 1;
+    }
+    true
+}
+
+// Whether the bytes from `from` on are still what was filled in.
+fn untouched(b: &[u8], from: usize) -> bool
+    requires { ⌜ (from ≤ length (now b)) × (length (now b) ≤ 91) ⌝ }
+{
+    let end = b.len();
+    let mut filled = [0u8; 91];
+    stored_calls::fill(&mut filled);
+    check::same(&b[from..], &filled[from..end])
+}
+
+// Whether the call, lent `numbers`, returns the first number, puts the words `put`, and changes no byte behind them.
+fn puts(c: Call, sheet: &[u8], lent: &[u8], first: u64, put: &[u64], numbers: &mut [u8]) -> bool
+    requires { ⌜ (length (now lent) ≤ 4224) × (8 * length (now put) ≤ length (now numbers)) × (length (now numbers) ≤ 91) ⌝ }
+{
+    let behind = 8 * put.len();
+    returns_same(c, sheet, lent, first, numbers)
+        && words_are(numbers, put)
+        && untouched(numbers, behind)
+}
+
+// Whether the sibling gives at once what the calls by number gave, `found`, and left in `lent`: lent 11 bytes more than the numbers take it puts them all, lent
+// one byte less it puts none.
+fn all_same(c: Call, sheet: &[u8], lent: &[u8], found: &[u64]) -> bool
+    requires { ⌜ (length (now lent) ≤ 4224) × (0 < length (now found)) × (length (now found) ≤ 10) ⌝ }
+{
+    let first = found[0];
+    let more = 8 * found.len() + 11;
+    let less = 8 * found.len() - 1;
+    let mut long = [0u8; 91];
+    let mut short = [0u8; 79];
+    puts(c, sheet, lent, first, found, &mut long[..more])
+        && puts(c, sheet, lent, first, &found[..0], &mut short[..less])
+}
+
+// ---- the line
 
 fn write(text: &[u8]) {
     io::write_all(STDOUT_FILENO, text);
@@ -41,23 +118,40 @@ fn write_bytes(b: &[u8]) {
     }
 }
 
-// The rest of the line, after its numbers: of a region list the lent bytes.
-fn finish(c: Call, lent: &[u8]) {
+// The rest of the line, after its numbers: of a region list the lent bytes, and of a call that has a sibling how the two compare.
+fn finish(c: Call, sheet: &[u8], lent: &[u8], found: &[u64])
+    requires { ⌜ (c .numbers ≤ 11) × (c .numbers ≤ length (now found)) × (length (now lent) ≤ 4224) ⌝ }
+{
     if c.code == 1 {
         write(b" bytes");
         write_bytes(lent);
     }
+    // A call of one number has no sibling.
+    let asked = c.numbers as usize;
+    if 1 < asked {
+        let n = asked - 1;
+        if all_same(c, sheet, lent, &found[..n]) {
+            write(b" all same");
+        } else {
+            write(b" all differ");
+        }
+    }
     write(b"\n");
 }
 
-fn write_answer(c: Call, sheet: &[u8], lent: &mut [u8]) {
+fn write_answer(c: Call, sheet: &[u8], lent: &mut [u8])
+    requires { ⌜ (c .numbers ≤ 11) × (length (now lent) ≤ 4224) ⌝ }
+{
     let n = c.numbers;
+    let mut found = [0u64; 11];
     let mut which = 0;
     while which < n {
-        write_found(ask(c, sheet, lent, which));
+        let number = ask(c, sheet, lent, which);
+        write_found(number);
+        found[which as usize] = number;
         which += 1;
     }
-    finish(c, lent);
+    finish(c, sheet, lent, &found);
 }
 
 fn replay_record(one: &[u8])

@@ -1,12 +1,14 @@
-// Calls that a file stores, one record after another: a record is read, and its line written up to the numbers of the answer. A record is a head of 32 bytes and a sheet.
-ghost use Prim.Native.Nat.{_+_, _≤_};
-ghost use lib.ListN.{length};
+// Calls that a file stores, one record after another: a record is read, and its line written up to the numbers of the answer. A record is a head of 32 bytes and a sheet
+// (codes 4 and 5: a region's bytes).
+ghost use mathlib.Core.Path.{_≡_};
+ghost use Prim.Native.Nat.{ℕ, _+_, _*_, _%_, _<_, _≤_};
+ghost use lib.ListN.{length, getD};
 ghost use Rattle.io.specs.Counts.{Counts};
 use libc::STDOUT_FILENO;
 
 // The head of a record.
 pub struct Call {
-    // 0 verdict, 1 relocations, 2 relocation_base_valid, else contains
+    // 0 verdict, 1 relocations, 2 relocation_base_valid, 4 region_base_valid, 5 region_contains, else contains
     pub code: u8,
     // 0 document 01, else the Rust
     pub answered: u8,
@@ -16,7 +18,7 @@ pub struct Call {
     pub value: u64,
     // how many bytes are lent
     pub lent: usize,
-    // how many numbers are asked for: those of the answer, and one past them
+    // how many numbers are asked for: those of the answer, and one past them where the call takes `which`
     pub numbers: u32,
 }
 
@@ -41,7 +43,9 @@ fn write_number(words: &[u8], n: u64) {
 }
 
 // What lent bytes hold before a call.
-fn fill(b: &mut [u8]) {
+pub fn fill(b: &mut [u8])
+    ensures { λ _. ⌜ ((i : ℕ) → i < length (now (b .entry)) → getD (now (b .exit)) i 0 ≡ (37 * i + 51) % 256) ⌝ }
+{
     let mut i = 0;
     while i < b.len() {
         b[i] = ((i % 256 * 37 + 51) % 256) as u8;
@@ -65,6 +69,8 @@ fn write_call(c: Call) {
             write_number(b" lent ", c.lent as u64);
         }
         2 => write_region(b"relocation_base_valid", c, b" base "),
+        4 => write_number(b"region_base_valid base ", c.value),
+        5 => write_number(b"region_contains gpa ", c.value),
         _ => write_region(b"contains", c, b" gpa "),
     }
 }
@@ -77,16 +83,20 @@ fn write_answered(c: Call) {
     }
 }
 
-fn numbers(code: u8) -> u32 {
+fn numbers(code: u8) -> u32
+    ensures { λ r. ⌜ r ≤ 11 ⌝ }
+{
     match code {
         0 => 7,
         1 => 11,
+        4 | 5 => 1,
         _ => 5,
     }
 }
 
 fn call_of(one: &[u8]) -> Call
     requires { ⌜ 32 ≤ length (now one) ⌝ }
+    ensures { λ r. ⌜ r .numbers ≤ 11 ⌝ }
 {
     let code = one[0];
     Call {
@@ -104,6 +114,7 @@ fn call_of(one: &[u8]) -> Call
 pub fn start(one: &[u8], space: &mut [u8]) -> Call
     requires { ⌜ 32 ≤ length (now one) ⌝ }
     ensures { λ r. ⌜ Counts (r .lent) (now (space .exit)) ⌝ }
+    ensures { λ r. ⌜ r .numbers ≤ 11 ⌝ }
 {
     fill(space);
     let c = call_of(one);
