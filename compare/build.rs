@@ -1,5 +1,5 @@
-//! Finds the library to compare. IGVM_LIB names the archive; without it, target/staticlib/libigvm.a of the repository.
-//! Where there is none, the program is built without it.
+//! Whether there is a library to compare, which crate sapyullu links. IGVM_LIB names the archive; without it, it is target/staticlib/libigvm.a of the
+//! repository. Where there is none, the program is built without it.
 
 use std::env;
 use std::path::{Path, PathBuf};
@@ -9,12 +9,9 @@ fn main() {
     let usual = Path::new(env!("CARGO_MANIFEST_DIR")).join("../target/staticlib/libigvm.a");
     let path = env::var_os("IGVM_LIB").map_or(usual, PathBuf::from);
     println!("cargo:rerun-if-changed={}", path.display());
-    if !path.is_file() {
+    if path.is_file() {
+        println!("cargo:rustc-cfg=library");
+    } else {
         assert!(env::var_os("IGVM_LIB").is_none(), "IGVM_LIB is {}, which is no file", path.display());
-        return;
     }
-    let folder = path.parent().unwrap().canonicalize().unwrap();
-    println!("cargo:rustc-link-search=native={}", folder.display());
-    println!("cargo:rustc-link-lib=static:+verbatim={}", path.file_name().unwrap().to_str().unwrap());
-    println!("cargo:rustc-cfg=library");
 }

@@ -1,14 +1,32 @@
 //! The comparison must catch each wrong copy of paper.rs.
 
 use crate::compare::Difference;
+use crate::region;
 use crate::run::{random_cases, Run};
 use calls::Calls;
 
-/// The first difference, in random sheets or else in the short ones, and where it was found.
+/// Random regions' bytes that a wrong copy is asked of.
+const REGIONS: u64 = 20_000;
+
+/// Random sheets that it is asked of before the short ones, which are more.
+const FIRST: u64 = 10_000;
+
+/// The first difference, in regions' bytes, random sheets or the short ones, and where it was found.
 pub fn first_difference(calls: &Calls, seed: u64, cases: u64) -> Option<(String, Difference)> {
-    if let (_, Some((case, difference))) = random_cases(calls, seed, 0, 1, cases) {
-        return Some((format!("random sheet {case}"), difference));
+    if let (counts, Some(difference)) = region::any_bytes(calls, seed, REGIONS) {
+        return Some((format!("region check {}", counts.checks), difference));
     }
+    in_random_sheets(calls, seed, 0, cases.min(FIRST))
+        .or_else(|| in_short_sheets(calls, seed))
+        .or_else(|| in_random_sheets(calls, seed, FIRST, cases))
+}
+
+fn in_random_sheets(calls: &Calls, seed: u64, from: u64, to: u64) -> Option<(String, Difference)> {
+    let (case, difference) = random_cases(calls, seed, from, 1, to).1?;
+    Some((format!("random sheet {case}"), difference))
+}
+
+fn in_short_sheets(calls: &Calls, seed: u64) -> Option<(String, Difference)> {
     let mut run = Run::new(calls);
     let difference = run.short_sheets(seed).err()?;
     Some((format!("short sheet {}", run.tally.cases), difference))

@@ -1,17 +1,49 @@
 //! One sheet, one call, three answers: of the calls under test, of document 01 in Rust, and, on its domain, of the Rust itself.
-//! To the verdict there is a fourth, of plain.rs.
+//! To the verdict there is a fourth, of plain.rs. region.rs has the checks by a region's words.
 
-use crate::{paper, plain};
+use crate::{paper, plain, region};
 use calls::Calls;
 use oracle::{Headers, Judged, Relocated};
 
-/// A call but for the sheet and `which`.
+/// A call but for the sheet and `which`. The last two have neither: a region's words take the sheet's place.
 #[derive(Clone, Copy, Debug, PartialEq, Eq)]
 pub enum Call {
     Verdict,
     Relocations { mask: u32, lent: usize },
     BaseValid { mask: u32, region: u64, base: u64 },
     Contains { mask: u32, region: u64, gpa: u64 },
+    RegionBaseValid { base: u64 },
+    RegionContains { gpa: u64 },
+}
+
+/// How much is asked beside the numbers of an answer, one by one.
+#[derive(Clone, Copy)]
+pub enum Extent {
+    /// every length that is lent for all numbers
+    All,
+    /// one of those that are long enough and one of those that are not, others for other cases
+    Case(u64),
+}
+
+impl Extent {
+    /// All, or one of them.
+    pub fn of<T>(self, all: &[T]) -> &[T] {
+        match self {
+            Extent::All => all,
+            Extent::Case(case) => {
+                let at = (case % all.len() as u64) as usize;
+                &all[at..=at]
+            }
+        }
+    }
+
+    /// A number that differs from case to case.
+    pub fn turn(self) -> u64 {
+        match self {
+            Extent::All => 0,
+            Extent::Case(case) => case,
+        }
+    }
 }
 
 /// The numbers of `which` that are asked for: every answer's, and some past it.
@@ -42,7 +74,11 @@ pub struct Rust {
 
 impl Rust {
     pub fn of(sheet: &[u8]) -> Rust {
-        let mut rust = Rust { headers: Headers::decode(sheet), judged: None, queries: false, panicked: None };
+        Rust::of_headers(Headers::decode(sheet))
+    }
+
+    pub fn of_headers(headers: Option<Headers>) -> Rust {
+        let mut rust = Rust { headers, judged: None, queries: false, panicked: None };
         if let Some(headers) = rust.headers.as_ref().filter(|headers| headers.in_domain()) {
             match headers.verdict() {
                 Ok(judged) => rust.judged = Some(judged),
@@ -53,8 +89,14 @@ impl Rust {
         rust
     }
 
+    /// The Rust's regions for a mask, if the file is accepted, on the domain of queries; not for mask 0.
+    pub fn relocated(&self, mask: u32) -> Result<Option<Relocated>, String> {
+        let file = self.judged.as_ref().and_then(|judged| judged.file.as_ref());
+        file.filter(|_| self.queries && mask != 0).map(|file| Relocated::of(file, mask)).transpose()
+    }
+
     /// The Rust's answer, where it has one: not for mask 0, a region's number too high, too few words, or a sum of 2^64 or more.
-    fn answer(&self, call: Call, words: &mut [u8]) -> Result<Option<Numbers>, String> {
+    pub fn answer(&self, call: Call, words: &mut [u8]) -> Result<Option<Numbers>, String> {
         let Some(judged) = &self.judged else {
             return Ok(None);
         };
@@ -64,16 +106,14 @@ impl Rust {
         if !self.queries {
             return Ok(None);
         }
-        let Some(file) = &judged.file else {
+        if judged.file.is_none() {
             return Ok(Some(numbers_of(&judged.numbers[..3])));
-        };
-        let mask = call.mask();
-        if mask == 0 {
-            return Ok(None);
         }
-        let found = Relocated::of(file, mask)?;
+        let Some(found) = self.relocated(call.mask())? else {
+            return Ok(None);
+        };
         Ok(match call {
-            Call::Verdict => None,
+            Call::Verdict | Call::RegionBaseValid { .. } | Call::RegionContains { .. } => None,
             Call::Relocations { .. } => region_list(&found, words),
             Call::BaseValid { region, base, .. } => {
                 let fits = |r: &&oracle::IgvmRelocatableRegion| base.checked_add(r.size).is_some();
@@ -101,7 +141,7 @@ fn region_list(found: &Relocated, words: &mut [u8]) -> Option<Numbers> {
 impl Call {
     pub fn mask(self) -> u32 {
         match self {
-            Call::Verdict => 0,
+            Call::Verdict | Call::RegionBaseValid { .. } | Call::RegionContains { .. } => 0,
             Call::Relocations { mask, .. } | Call::BaseValid { mask, .. } | Call::Contains { mask, .. } => mask,
         }
     }
@@ -115,16 +155,31 @@ impl Call {
 
     /// Bytes to lend, as they are before the call.
     pub fn to_lend(self) -> Vec<u8> {
-        lent_part(&mut fresh(self.lent())).to_vec()
+        to_lend(self.lent())
     }
 
     /// How many numbers its answer has.
-    fn numbers(self) -> usize {
+    pub fn numbers(self) -> usize {
         match self {
             Call::Verdict => 6,
             Call::Relocations { .. } => 10,
             Call::BaseValid { .. } | Call::Contains { .. } => 4,
+            Call::RegionBaseValid { .. } | Call::RegionContains { .. } => 1,
         }
+    }
+
+    /// The same check by the region's words.
+    pub fn by_words(self) -> Call {
+        match self {
+            Call::BaseValid { base, .. } => Call::RegionBaseValid { base },
+            Call::Contains { gpa, .. } => Call::RegionContains { gpa },
+            other => other,
+        }
+    }
+
+    /// It is answered by a region's words, without a sheet: there is no `which` and no sibling.
+    pub fn is_by_words(self) -> bool {
+        matches!(self, Call::RegionBaseValid { .. } | Call::RegionContains { .. })
     }
 
     fn by_paper(self, sheet: &[u8], words: &mut [u8]) -> Numbers {
@@ -133,6 +188,8 @@ impl Call {
             Call::Relocations { mask, .. } => numbers_of(&paper::relocations(sheet, mask, words)),
             Call::BaseValid { mask, region, base } => numbers_of(&paper::relocation_base_valid(sheet, mask, region, base)),
             Call::Contains { mask, region, gpa } => numbers_of(&paper::contains(sheet, mask, region, gpa)),
+            Call::RegionBaseValid { base } => numbers_of(&[paper::region_base_valid(sheet, base)]),
+            Call::RegionContains { gpa } => numbers_of(&[paper::region_contains(sheet, gpa)]),
         }
     }
 
@@ -142,6 +199,19 @@ impl Call {
             Call::Relocations { mask, .. } => (calls.relocations)(sheet, mask, words, which),
             Call::BaseValid { mask, region, base } => (calls.relocation_base_valid)(sheet, mask, region, base, which),
             Call::Contains { mask, region, gpa } => (calls.contains)(sheet, mask, region, gpa, which),
+            Call::RegionBaseValid { base } => (calls.region_base_valid)(sheet, base),
+            Call::RegionContains { gpa } => (calls.region_contains)(sheet, gpa),
+        }
+    }
+
+    /// The sibling, which puts all numbers.
+    pub fn ask_all(self, calls: &Calls, sheet: &[u8], words: &mut [u8], numbers: &mut [u8]) -> u64 {
+        match self {
+            Call::Verdict => (calls.verdict_numbers)(sheet, numbers),
+            Call::Relocations { mask, .. } => (calls.relocations_numbers)(sheet, mask, words, numbers),
+            Call::BaseValid { mask, region, base } => (calls.relocation_base_valid_numbers)(sheet, mask, region, base, numbers),
+            Call::Contains { mask, region, gpa } => (calls.contains_numbers)(sheet, mask, region, gpa, numbers),
+            Call::RegionBaseValid { .. } | Call::RegionContains { .. } => unreachable!("a check by a region's words has no sibling"),
         }
     }
 }
@@ -149,6 +219,11 @@ impl Call {
 /// Bytes to lend, with some on either side that are not lent.
 fn fresh(lent: usize) -> Vec<u8> {
     (0..lent + 16).map(|at| (at * 37 + 11) as u8).collect()
+}
+
+/// So many bytes to lend, with none on either side.
+pub fn to_lend(length: usize) -> Vec<u8> {
+    lent_part(&mut fresh(length)).to_vec()
 }
 
 fn lent_part(buffer: &mut [u8]) -> &mut [u8] {
@@ -177,16 +252,24 @@ pub struct Difference {
     pub between: Between,
 }
 
-/// The answers to one call, compared: every number, every lent byte, and the bytes on either side. Gives the refusal's number.
-pub fn check(calls: &Calls, sheet: &[u8], rust: &Rust, call: Call) -> Result<u64, Difference> {
+/// What a comparison has seen: the refusal's number, and how many regions were checked by their words too.
+pub struct Agreed {
+    pub number: u64,
+    pub regions: u64,
+}
+
+/// The answers to one call, compared: every number, one by one and all at once, every lent byte, and the bytes on either side; and what is said of a region by its words.
+pub fn check(calls: &Calls, sheet: &[u8], rust: &Rust, call: Call, extent: Extent) -> Result<Agreed, Difference> {
+    if call.is_by_words() {
+        return region::check(calls, sheet, call).map(|_| Agreed { number: 0, regions: 1 });
+    }
     let differ = |between: Between, what: String| Difference { sheet: sheet.to_vec(), call, what, between };
     let mut paper_bytes = fresh(call.lent());
     let by_paper = call.by_paper(sheet, lent_part(&mut paper_bytes));
     let mut rust_bytes = fresh(call.lent());
     let by_rust = rust.answer(call, lent_part(&mut rust_bytes)).map_err(|message| differ(Between::Rust, message))?;
     if call == Call::Verdict {
-        readable_alike(rust, by_paper[0]).map_err(|what| differ(Between::Rust, what))?;
-        plain_alike(sheet, &by_paper[..6]).map_err(|what| differ(Between::Plain, what))?;
+        verdict_alike(sheet, rust, &by_paper)?;
     }
     for which in WHICH {
         let mut bytes = fresh(call.lent());
@@ -200,25 +283,73 @@ pub fn check(calls: &Calls, sheet: &[u8], rust: &Rust, call: Call) -> Result<u64
             return Err(differ(Between::Paper, said(which, answer, &bytes, "document 01", &by_paper, &paper_bytes)));
         }
     }
-    Ok(by_paper[0])
+    all_numbers_alike(calls, sheet, call, (&by_paper, &paper_bytes), extent).map_err(|what| differ(Between::Paper, what))?;
+    let regions = match by_paper[0] {
+        0 => region::alike(calls, sheet, rust, call, (by_paper[3], lent_part(&mut paper_bytes)), extent)?,
+        _ => 0,
+    };
+    Ok(Agreed { number: by_paper[0], regions })
+}
+
+/// The sibling puts all numbers where they have room, fills the same words and gives number 0.
+fn all_numbers_alike(calls: &Calls, sheet: &[u8], call: Call, paper: (&Numbers, &[u8]), extent: Extent) -> Result<(), String> {
+    let (by_paper, paper_bytes) = (&paper.0[..call.numbers()], paper.1);
+    let enough = 8 * by_paper.len();
+    let too_few = [0, 1, 7, 8, enough - 8, enough - 1];
+    for &lent in extent.of(&too_few).iter().chain(extent.of(&[enough, enough + 1, enough + 8, enough + 21])) {
+        let (mut bytes, mut numbers, mut paper_numbers) = (fresh(call.lent()), fresh(lent), fresh(lent));
+        let answer = call.ask_all(calls, sheet, lent_part(&mut bytes), lent_part(&mut numbers));
+        let number = paper::put(by_paper, lent_part(&mut paper_numbers));
+        let differ = |what: String| Err(format!("with {lent} bytes lent for all numbers {what}"));
+        if answer != number {
+            return differ(format!("the call gives {answer}; document 01 says {number}"));
+        }
+        for (of, bytes, others) in [("numbers", &numbers, &paper_numbers[..]), ("words", &bytes, paper_bytes)] {
+            if bytes != others {
+                return differ(other_byte(of, bytes, "document 01", others));
+            }
+        }
+    }
+    Ok(())
 }
 
 /// An answer that the calls are held to, with the lent bytes afterwards.
 pub struct Answer {
-    /// from `which` 0 to one past the answer's numbers
+    /// from `which` 0 to one past the answer's numbers; the one number of a check by words
     pub numbers: Vec<u64>,
     pub lent: Vec<u8>,
     /// the Rust answered, not document 01
     pub by_rust: bool,
 }
 
-/// The Rust's answer where it has one, else document 01's.
+/// The Rust's answer where it has one, which must be document 01's, else that of document 01.
 pub fn answer(sheet: &[u8], rust: &Rust, call: Call) -> Result<Answer, Difference> {
-    check(&paper::CALLS, sheet, rust, call)?;
-    let mut lent = call.to_lend();
-    let by_rust = rust.answer(call, &mut lent).ok().flatten();
-    let numbers = by_rust.unwrap_or_else(|| call.by_paper(sheet, &mut lent));
-    Ok(Answer { numbers: (0..=call.numbers()).map(|which| at(which as u32, &numbers)).collect(), lent, by_rust: by_rust.is_some() })
+    let (mut lent, mut rust_lent) = (call.to_lend(), call.to_lend());
+    let by_paper = call.by_paper(sheet, &mut lent);
+    let by_rust = match call.is_by_words() {
+        true => Ok(region::by_rust(sheet, call).map(|answer| numbers_of(&[answer]))),
+        false => rust.answer(call, &mut rust_lent),
+    };
+    let same = |other: Option<Numbers>| match other {
+        Some(numbers) if numbers != by_paper || rust_lent != lent => {
+            Err(format!("the Rust says {numbers:?}; document 01 says {by_paper:?}"))
+        }
+        _ => Ok(other.is_some()),
+    };
+    let differ = |between: Between| move |what: String| Difference { sheet: sheet.to_vec(), call, what, between };
+    let by_rust = by_rust.and_then(same).map_err(differ(Between::Rust))?;
+    if call == Call::Verdict {
+        verdict_alike(sheet, rust, &by_paper)?;
+    }
+    let asked = call.numbers() + usize::from(!call.is_by_words());
+    Ok(Answer { numbers: (0..asked).map(|which| at(which as u32, &by_paper)).collect(), lent, by_rust })
+}
+
+/// The Rust reads what document 01 does, and plain Rust gives its verdict.
+fn verdict_alike(sheet: &[u8], rust: &Rust, by_paper: &Numbers) -> Result<(), Difference> {
+    let differ = |between: Between| move |what: String| Difference { sheet: sheet.to_vec(), call: Call::Verdict, what, between };
+    readable_alike(rust, by_paper[0]).map_err(differ(Between::Rust))?;
+    plain_alike(sheet, &by_paper[..6]).map_err(differ(Between::Plain))
 }
 
 /// The decoder that feeds the Rust takes exactly the sheets that document 01 calls readable, and the Rust does not panic on the domain.
@@ -243,9 +374,15 @@ pub fn plain_alike(sheet: &[u8], by_paper: &[u64]) -> Result<(), String> {
 
 fn said(which: u32, answer: u64, bytes: &[u8], other: &str, numbers: &Numbers, other_bytes: &[u8]) -> String {
     let mut text = format!("number {which} is {answer}; {other} says {}", at(which, numbers));
-    if let Some(place) = (0..bytes.len()).find(|&place| bytes[place] != other_bytes[place]) {
-        let (is, leaves) = (bytes[place], other_bytes[place]);
-        text += &format!("; lent byte {} is {is:#04x} afterwards; {other} leaves {leaves:#04x}", place as i64 - 8);
+    if bytes != other_bytes {
+        text += &format!("; {}", other_byte("words", bytes, other, other_bytes));
     }
     text + &format!(" (all its numbers: {numbers:?})")
+}
+
+/// The first byte, of those lent for words or for numbers and those on either side, that is another afterwards.
+fn other_byte(of: &str, bytes: &[u8], other: &str, other_bytes: &[u8]) -> String {
+    let place = (0..bytes.len()).find(|&place| bytes[place] != other_bytes[place]).expect("some byte differs");
+    let (is, leaves) = (bytes[place], other_bytes[place]);
+    format!("byte {} lent for {of} is {is:#04x} afterwards; {other} leaves {leaves:#04x}", place as i64 - 8)
 }

@@ -20,6 +20,19 @@ pub fn sheet(random: &mut Random) -> Vec<u8> {
     bytes
 }
 
+/// A readable image, after one of these numbers of changes.
+pub fn readable_image(random: &mut Random, changes: &[usize]) -> Image {
+    loop {
+        let mut image = image(random);
+        for _ in 0..random.pick(changes) {
+            change(random, &mut image);
+        }
+        if image.counts.is_none() && oracle::Headers::decode(&image.bytes()).is_some() {
+            return image;
+        }
+    }
+}
+
 // ---- well-formed images
 
 /// An image that is accepted but for rare accidents.
@@ -80,10 +93,13 @@ struct Layout {
     placed: Vec<(u64, u64)>,
 }
 
+fn starting_place(random: &mut Random) -> u64 {
+    random.pick(&[0, 0x100000, 0x100000, 0xFFFF_F000, TOP - 0x200000])
+}
+
 fn initializations(random: &mut Random, arch: u8, bits: &[u64], platforms: &[Row]) -> Vec<Row> {
     let count = if random.one_in(300) { random.below(65) } else { random.pick(&[0, 1, 1, 2, 2, 3, 4, 5, 6]) };
-    let next = random.pick(&[0, 0x100000, 0x100000, 0xFFFF_F000, TOP - 0x200000]);
-    let mut layout = Layout { next, free: bits.to_vec(), placed: Vec::new() };
+    let mut layout = Layout { next: starting_place(random), free: bits.to_vec(), placed: Vec::new() };
     let cca = cca_bits(platforms);
     let mut rows: Vec<Row> = (0..count).map(|_| initialization(random, arch, bits, &cca, &mut layout)).collect();
     if random.one_in(2) {
@@ -129,6 +145,13 @@ fn region(random: &mut Random, bits: &[u64], layout: &mut Layout) -> Row {
     let maximum = random.pick(&[end, TOP / alignment * alignment, end.saturating_add(4 * alignment), 0]) / alignment * alignment;
     let vtl = random.pick(&[0, 0, 1, 2]);
     Row::new(18, &[mask, alignment, gpa, size, minimum, maximum, random.below(8) as u64, 0, vtl])
+}
+
+/// The words of a region as `region` makes them.
+pub fn region_words(random: &mut Random) -> [u64; 8] {
+    let mut layout = Layout { next: starting_place(random), free: Vec::new(), placed: Vec::new() };
+    let row = region(random, &[1], &mut layout);
+    ["gpa", "size", "alignment", "minimum", "maximum", "flags", "vp", "vtl"].map(|name| row.get(name).unwrap())
 }
 
 /// A page table whose mask takes some of the free bits.

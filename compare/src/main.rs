@@ -1,9 +1,11 @@
 //! Compares the calls of the library with the Rust of crate igvm 0.5.0 and with document 01. README.md says how to run it.
 
+mod adapter;
 mod caught;
 mod compare;
 mod generate;
 mod library;
+mod loader;
 mod order;
 mod paper;
 mod places;
@@ -11,6 +13,7 @@ mod plain;
 mod plan;
 mod random;
 mod record;
+mod region;
 mod run;
 mod samples;
 mod sheet;
@@ -37,7 +40,7 @@ struct Options {
 }
 
 const USAGE: &str = "compare [PART] [--cases N] [--seed N] [--threads N] [--backend library|paper] [FILE..]
-parts: all (samples, short, random, order, wrong) or one of these, with the samples' folder; speed; against FOLDER; emit; one HEX; record [--check] FOLDER";
+parts: all (samples, short, random, regions, adapter, order, wrong) or one of these, with the samples' folder; speed; against FOLDER; emit; one HEX; record [--check] FOLDER";
 
 fn options() -> Result<Options, String> {
     let mut options = Options {
@@ -107,7 +110,9 @@ fn part(o: &Options) -> Result<(), String> {
         "samples" => samples::replay(&calls, o.rest.first().ok_or(USAGE)?),
         "short" => short_sheets(&calls, o).map(|tally| tally.print()),
         "random" => random_sheets(&calls, o).map(|tally| tally.print()),
-        "order" => order::run(&calls, o.seed, o.cases),
+        "regions" => region_bytes(&calls, o),
+        "adapter" => adapter::run(&calls, o.seed, o.cases, o.threads),
+        "order" => order::run(&calls, o.seed, o.cases, o.threads),
         "wrong" => wrong_copies(o),
         "speed" => return speed::run(&calls, &o.speed),
         "all" => all(&calls, o),
@@ -125,7 +130,9 @@ fn all(calls: &Calls, o: &Options) -> Result<(), String> {
     tally.add(&random_sheets(calls, o)?);
     tally.print();
     every_refusal(&tally)?;
-    order::run(calls, o.seed, o.cases / 20)?;
+    region_bytes(calls, o)?;
+    adapter::run(calls, o.seed, o.cases / 5, o.threads)?;
+    order::run(calls, o.seed, o.cases / 20, o.threads)?;
     wrong_copies(o)
 }
 
@@ -164,18 +171,29 @@ fn random_sheets(calls: &Calls, o: &Options) -> Result<Tally, String> {
     Ok(tally)
 }
 
+fn region_bytes(calls: &Calls, o: &Options) -> Result<(), String> {
+    let start = Instant::now();
+    let (counts, found) = region::any_bytes(calls, o.seed, o.cases);
+    if let Some(difference) = found {
+        return Err(report(calls, &format!("region check {} of seed {}", counts.checks, o.seed), difference));
+    }
+    println!("region checks on any bytes agree: {}; {:.1?}", counts.seen()?, start.elapsed());
+    Ok(())
+}
+
 /// Every wrong copy is caught.
 fn wrong_copies(o: &Options) -> Result<(), String> {
     let start = Instant::now();
+    let of_thread = |thread: u64| {
+        let copies = wrong::WRONG.iter().skip(thread as usize).step_by(o.threads);
+        copies.map(|copy| (copy.0, caught_copy(copy, o))).collect()
+    };
+    let by_thread: Vec<Vec<_>> = run::on_threads(o.threads, of_thread);
     let mut missed = Vec::new();
-    for (name, what, calls) in wrong::WRONG {
-        match caught::first_difference(calls, o.seed, o.cases.min(200_000)) {
-            Some((place, difference)) if difference.between != Between::Plain => {
-                let smallest = shrink::smallest(calls, difference);
-                let by = if smallest.between == Between::Rust { "the Rust" } else { "document 01" };
-                println!("caught {name} ({what}): {place}, by {by}; {} bytes, {:?}", smallest.sheet.len(), smallest.call);
-            }
-            _ => missed.push(*name),
+    for copy in 0..wrong::WRONG.len() {
+        match &by_thread[copy % o.threads][copy / o.threads] {
+            (_, Some(line)) => println!("{line}"),
+            (name, None) => missed.push(*name),
         }
     }
     println!("{} wrong copies, {} not caught, {:.1?}", wrong::WRONG.len(), missed.len(), start.elapsed());
@@ -183,6 +201,18 @@ fn wrong_copies(o: &Options) -> Result<(), String> {
         return Ok(());
     }
     Err(format!("wrong copies that were not caught: {missed:?}"))
+}
+
+/// By what a wrong copy is caught, if it is.
+fn caught_copy((name, what, calls): &(&str, &str, Calls), o: &Options) -> Option<String> {
+    let (place, difference) = caught::first_difference(calls, o.seed, o.cases.min(200_000))?;
+    let smallest = shrink::smallest(calls, difference);
+    let by = match smallest.between {
+        Between::Rust => "the Rust",
+        Between::Paper => "document 01",
+        Between::Plain => return None,
+    };
+    Some(format!("caught {name} ({what}): {place}, by {by}; {} bytes, {:?}", smallest.sheet.len(), smallest.call))
 }
 
 /// The line that `admit` writes of a verdict.

@@ -2,6 +2,7 @@
 
 use crate::compare::{plain_alike, Call};
 use crate::random::Random;
+use crate::run::on_threads;
 use crate::sheet::{fields_length, hex, Image, Row};
 use crate::{generate, paper};
 use calls::Calls;
@@ -25,18 +26,24 @@ struct Counts {
     area_swaps_differ: u64,
 }
 
-pub fn run(calls: &Calls, seed: u64, cases: u64) -> Result<(), String> {
+impl Counts {
+    fn add(&mut self, other: &Counts) {
+        self.reordered += other.reordered;
+        self.accepted += other.accepted;
+        self.regions += other.regions;
+        self.bases += other.bases;
+        self.platform_swaps += other.platform_swaps;
+        self.platform_swaps_differ += other.platform_swaps_differ;
+        self.area_swaps += other.area_swaps;
+        self.area_swaps_differ += other.area_swaps_differ;
+    }
+}
+
+pub fn run(calls: &Calls, seed: u64, cases: u64, threads: usize) -> Result<(), String> {
     let start = std::time::Instant::now();
     let mut counts = Counts::default();
-    for case in 0..cases {
-        let mut random = Random::new(seed ^ 0x6F72_6465_7200, case);
-        let image = readable_image(&mut random);
-        let reordered = reorder(&mut random, image);
-        same_answers(calls, &mut random, &reordered, &mut counts).map_err(|what| {
-            let [a, b] = [&reordered.a, &reordered.b].map(|image| hex(&image.bytes()));
-            format!("order, case {case}: {what}\n  a: {a}\n  b: {b}")
-        })?;
-        swapped(calls, &mut random, &reordered.a, &mut counts).map_err(|what| format!("order, case {case}, two rows swapped: {what}"))?;
+    for part in on_threads(threads, |first| images(calls, seed, (first..cases).step_by(threads))) {
+        counts.add(&part?);
     }
     let c = &counts;
     println!(
@@ -56,17 +63,19 @@ pub fn run(calls: &Calls, seed: u64, cases: u64) -> Result<(), String> {
     Ok(())
 }
 
-/// An image, changed or not, that is readable.
-fn readable_image(random: &mut Random) -> Image {
-    loop {
-        let mut image = generate::image(random);
-        for _ in 0..random.pick(&[0, 0, 0, 1, 2]) {
-            generate::change(random, &mut image);
-        }
-        if image.counts.is_none() && oracle::Headers::decode(&image.bytes()).is_some() {
-            return image;
-        }
+fn images(calls: &Calls, seed: u64, cases: impl Iterator<Item = u64>) -> Result<Counts, String> {
+    let mut counts = Counts::default();
+    for case in cases {
+        let mut random = Random::new(seed ^ 0x6F72_6465_7200, case);
+        let image = generate::readable_image(&mut random, &[0, 0, 0, 1, 2]);
+        let reordered = reorder(&mut random, image);
+        same_answers(calls, &mut random, &reordered, &mut counts).map_err(|what| {
+            let [a, b] = [&reordered.a, &reordered.b].map(|image| hex(&image.bytes()));
+            format!("order, case {case}: {what}\n  a: {a}\n  b: {b}")
+        })?;
+        swapped(calls, &mut random, &reordered.a, &mut counts).map_err(|what| format!("order, case {case}, two rows swapped: {what}"))?;
     }
+    Ok(counts)
 }
 
 // ---- reordering

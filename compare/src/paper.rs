@@ -1,5 +1,5 @@
 // Document 01 in plain Rust, in its order, with the refusal's number beside each test. It is written for reading, not for speed.
-// It is what the calls are compared with where the Rust has no answer: 1 to 6, 19, 27, 28, 35 to 37.
+// It is what the calls are compared with where the Rust has no answer: 1 to 6, 19, 27, 28, 35 to 37, and regions' words that it can't hold.
 // mutations.txt edits this text: each wrong copy must be caught.
 
 use calls::Calls;
@@ -442,10 +442,40 @@ pub fn contains(s: &[u8], mask: u32, region: u64, gpa: u64) -> [u64; 4] {
     check(s, mask, region, |&[base, size, ..]| gpa >= base && u128::from(gpa) < end(base, size))
 }
 
-// ---- as the calls: number `which` of the answer, 0 where there is none
+// ---- the same checks by a region's eight words alone, without the sheet: 1 where it holds, else 0
+
+/// The words of a region's bytes. Fewer than 64 bytes are no region, and bytes behind them do not count.
+fn words_in(region: &[u8]) -> Option<Words> {
+    let bytes = region.get(..64)?;
+    Some(std::array::from_fn(|word| le(bytes, 8 * word, 8)))
+}
+
+/// A multiple of alignment 0 is 0 alone.
+pub fn region_base_valid(region: &[u8], base: u64) -> u64 {
+    let Some([_, size, alignment, minimum, maximum, ..]) = words_in(region) else { return 0 };
+    let past = base.checked_rem(alignment).unwrap_or(base);
+    u64::from(past == 0 && minimum <= base && u128::from(maximum) >= end(base, size))
+}
+
+pub fn region_contains(region: &[u8], gpa: u64) -> u64 {
+    let Some([start, size, ..]) = words_in(region) else { return 0 };
+    u64::from((u128::from(start)..end(start, size)).contains(&u128::from(gpa)))
+}
+
+// ---- as the calls: number `which` of the answer, 0 where there is none; or all of its numbers
 
 fn number(which: u32, numbers: &[u64]) -> u64 {
     numbers.get(which as usize).copied().unwrap_or(0)
+}
+
+/// The numbers go to the front of the lent bytes, each as a word; none does where fewer words are lent. Gives number 0.
+pub fn put(numbers: &[u64], lent: &mut [u8]) -> u64 {
+    if lent.len() / 8 >= numbers.len() {
+        for (place, number) in lent.chunks_exact_mut(8).zip(numbers) {
+            place.copy_from_slice(&number.to_le_bytes());
+        }
+    }
+    numbers[0]
 }
 
 pub const CALLS: Calls = Calls {
@@ -453,4 +483,10 @@ pub const CALLS: Calls = Calls {
     relocations: |s, mask, lent, which| number(which, &relocations(s, mask, lent)),
     relocation_base_valid: |s, mask, region, base, which| number(which, &relocation_base_valid(s, mask, region, base)),
     contains: |s, mask, region, gpa, which| number(which, &contains(s, mask, region, gpa)),
+    verdict_numbers: |s, numbers| put(&verdict(s), numbers),
+    relocations_numbers: |s, mask, lent, numbers| put(&relocations(s, mask, lent), numbers),
+    relocation_base_valid_numbers: |s, mask, region, base, numbers| put(&relocation_base_valid(s, mask, region, base), numbers),
+    contains_numbers: |s, mask, region, gpa, numbers| put(&contains(s, mask, region, gpa), numbers),
+    region_base_valid,
+    region_contains,
 };

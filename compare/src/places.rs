@@ -20,17 +20,20 @@ extern "C" {
 
 const RTLD_NOW: c_int = 2;
 
-/// The two calls that are measured, of one build at one place.
+/// The calls that are measured, of one build at one place.
 struct Placed {
     verdict: unsafe extern "C" fn(*const u8, usize, u32) -> u64,
     relocations: unsafe extern "C" fn(*const u8, usize, u32, *mut u8, usize, u32) -> u64,
+    /// an older build may not have it
+    verdict_numbers: Option<unsafe extern "C" fn(*const u8, usize, *mut u8, usize) -> u64>,
 }
 
 impl Placed {
     fn open(folder: &str, build: &str, place: u32) -> Result<Placed, String> {
         let path = format!("{folder}/{build}-{place}.so");
         let named = |text: &str| CString::new(text).map_err(|e| format!("{text}: {e}"));
-        // SAFETY: `compare/run against` has made the file of an archive of the library, which has both functions, as include/igvm.h declares them.
+        // SAFETY: `compare/run against` has made the file of an archive of the library, whose functions are as include/igvm.h declares them. A pointer that is
+        // null is None.
         unsafe {
             let handle = dlopen(named(&path)?.as_ptr(), RTLD_NOW);
             if handle.is_null() {
@@ -41,7 +44,21 @@ impl Placed {
             if verdict.is_null() || relocations.is_null() {
                 return Err(format!("{path} does not have the calls"));
             }
-            Ok(Placed { verdict: std::mem::transmute(verdict), relocations: std::mem::transmute(relocations) })
+            let verdict_numbers = dlsym(handle, c"igvm_verdict_numbers".as_ptr());
+            Ok(Placed {
+                verdict: std::mem::transmute(verdict),
+                relocations: std::mem::transmute(relocations),
+                verdict_numbers: std::mem::transmute(verdict_numbers),
+            })
+        }
+    }
+
+    /// It has the call of the case. What a loader does is more than a call.
+    fn has(&self, case: &Case) -> bool {
+        match case.question {
+            Question::Numbers => self.verdict_numbers.is_some(),
+            Question::Loader => false,
+            Question::Accepted | Question::Refused(_) | Question::Relocations => true,
         }
     }
 
@@ -50,6 +67,7 @@ impl Placed {
         let sheet = black_box(&case.sheet[..]);
         match case.question {
             Question::Relocations => unsafe { (self.relocations)(sheet.as_ptr(), sheet.len(), 1, lent.as_mut_ptr(), lent.len(), 0) },
+            Question::Numbers => unsafe { self.verdict_numbers.expect("the call")(sheet.as_ptr(), sheet.len(), lent.as_mut_ptr(), 48) },
             _ => unsafe { (self.verdict)(sheet.as_ptr(), sheet.len(), 0) },
         }
     }
@@ -126,8 +144,8 @@ pub fn run(folder: &str, settings: &Settings) -> Result<(), String> {
     let columns =
         [("other", 9), ("library", 9), ("ratio", 8), ("plain", 9), ("ratio", 8), ("rust", 9), ("ratio", 8), ("other", 30), ("library", 30)];
     println!("{:<24}{}", "case", columns.map(|(column, width)| format!("{column:>width$}")).concat());
-    for case in settings.cases()? {
-        println!("{}", Best::new(&case, &builds, settings.rounds).line(&case.name));
+    for case in settings.cases()?.iter().filter(|case| builds.iter().flatten().all(|build| build.has(case))) {
+        println!("{}", Best::new(case, &builds, settings.rounds).line(&case.name));
     }
     Ok(())
 }

@@ -20,7 +20,7 @@ fn regions(sheet: &[u8], mask: u32) -> Regions {
 }
 
 /// 0, single bits and several bits, of the initialization rows and beside them.
-fn masks(sheet: &[u8]) -> Vec<u32> {
+pub fn masks(sheet: &[u8]) -> Vec<u32> {
     let rows = Image::parse(sheet).map_or(Vec::new(), |image| image.lists[1].clone());
     let of_rows: Vec<u32> = rows.iter().filter_map(|row| row.get("mask")).map(|mask| mask as u32).collect();
     let all = of_rows.iter().fold(0, |union, mask| union | mask);
@@ -40,7 +40,8 @@ fn lent_lengths(count: usize) -> [usize; 9] {
     [0, 7, 8, 63, 64, (64 * count).saturating_sub(1), 64 * count, 64 * count + 5, 64 * count + 64]
 }
 
-fn bases(region: Option<&[u64; 8]>) -> Vec<u64> {
+/// Bases about the ends of what is valid, and of what is below 2^64.
+pub fn bases(region: Option<&[u64; 8]>) -> Vec<u64> {
     let Some(&[gpa, size, alignment, minimum, maximum, ..]) = region else { return vec![0, u64::MAX] };
     let last = maximum.wrapping_sub(size);
     let sum_ends = 0u64.wrapping_sub(size);
@@ -48,14 +49,15 @@ fn bases(region: Option<&[u64; 8]>) -> Vec<u64> {
     for near in [minimum, last, sum_ends] {
         bases.extend([near.wrapping_sub(alignment), near.wrapping_add(alignment), near.wrapping_sub(1), near.wrapping_add(1)]);
     }
-    bases.extend([last / alignment * alignment, sum_ends / alignment * alignment, u64::MAX / alignment * alignment]);
+    bases.extend([last, sum_ends, u64::MAX].map(|near| near - near.checked_rem(alignment).unwrap_or(0)));
     bases
 }
 
-fn addresses(region: Option<&[u64; 8]>) -> Vec<u64> {
+/// Addresses about a region's ends.
+pub fn addresses(region: Option<&[u64; 8]>) -> Vec<u64> {
     let Some(&[gpa, size, ..]) = region else { return vec![0, u64::MAX] };
-    let end = gpa + size;
-    vec![0, gpa.wrapping_sub(1), gpa, gpa + 1, end - 1, end, end.wrapping_add(1), u64::MAX]
+    let end = gpa.wrapping_add(size);
+    vec![0, gpa.wrapping_sub(1), gpa, gpa.wrapping_add(1), end.wrapping_sub(1), end, end.wrapping_add(1), u64::MAX]
 }
 
 /// Every query of every mask.

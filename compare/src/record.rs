@@ -1,10 +1,10 @@
 //! A sample of answers for a replay without the Rust: `data/calls` and `stdout` of the program crates/replay.
 //! Every answer is the Rust's, or document 01's where the Rust has none; the library is not asked.
 
-use crate::compare::{answer, Answer, Call, Rust};
+use crate::compare::{answer, to_lend, Answer, Call, Rust};
 use crate::random::Random;
 use crate::sheet::hex;
-use crate::{caught, generate, plan, shrink};
+use crate::{caught, generate, paper, plan, region, shrink};
 use calls::Calls;
 use std::collections::BTreeMap;
 use std::fs;
@@ -17,6 +17,8 @@ const SMALL: usize = 600;
 const LARGE: usize = 9000;
 /// The cases that each refusal must have at least.
 const LEAST: usize = 3;
+/// Random bytes in a region's place.
+const REGIONS: u64 = 8;
 
 /// One call on one sheet, with its answer.
 struct Case {
@@ -28,6 +30,7 @@ struct Case {
 /// Writes the sample into the folder, or compares it with what is there.
 pub fn run(seed: u64, folder: &str, check: bool) -> Result<(), String> {
     let mut cases = sample(seed)?;
+    cases.extend(region_bytes(seed)?);
     let too_large = catch_wrong_copies(seed, &mut cases)?;
     cases.sort_by_key(|case| (case.number(), case.code()));
     every_refusal(&cases)?;
@@ -35,7 +38,7 @@ pub fn run(seed: u64, folder: &str, check: bool) -> Result<(), String> {
     let lines: String = cases.iter().map(Case::line).collect();
     let by_rust = cases.iter().filter(|case| case.answer.by_rust).count();
     println!("record: {} cases of {} bytes, {by_rust} of them answered by the Rust", cases.len(), calls.len());
-    println!("  they catch every wrong copy but {too_large:?}, which need larger sheets");
+    println!("  they catch every wrong copy but {JUST_ENOUGH} and {too_large:?}, which need larger sheets");
     for (name, bytes) in [("data/calls", calls), ("stdout", lines.into_bytes())] {
         let path = Path::new(folder).join(name);
         let failed = |error: std::io::Error| format!("{}: {error}", path.display());
@@ -61,11 +64,27 @@ fn sample(seed: u64) -> Result<Vec<Case>, String> {
     Ok(sample.cases)
 }
 
+/// Checks by words, both of each: too few bytes, others behind a region's, and random ones.
+fn region_bytes(seed: u64) -> Result<Vec<Case>, String> {
+    let mut cases = Vec::new();
+    let mut each = |region: &[u8], base: u64, gpa: u64| {
+        let both = [Call::RegionBaseValid { base }, Call::RegionContains { gpa }];
+        cases.extend(both.map(|call| Case::new(region, &Rust::of(&[]), call)));
+        true
+    };
+    [0, 8, 63, 65, 80].into_iter().all(|length| region::of_length(length, &mut each));
+    (0..REGIONS).all(|case| region::random_bytes(&mut Random::new(seed, case), &mut each));
+    cases.into_iter().collect()
+}
+
+/// The wrong copy that differs only where just as many bytes are lent as the numbers take, which the replay does not do.
+const JUST_ENOUGH: &str = "numbers-word-more";
+
 /// Adds the smallest case for each wrong copy that the cases do not catch. Gives the names of those whose smallest sheet is too large.
 fn catch_wrong_copies(seed: u64, cases: &mut Vec<Case>) -> Result<Vec<&'static str>, String> {
     let mut too_large = Vec::new();
     for (name, _, calls) in wrong::WRONG {
-        if cases.iter().any(|case| case.differs(calls)) {
+        if *name == JUST_ENOUGH || cases.iter().any(|case| case.differs(calls)) {
             continue;
         }
         let (_, difference) = caught::first_difference(calls, seed, SHEETS).ok_or(format!("record: {name} is not caught"))?;
@@ -112,7 +131,11 @@ impl Sample {
         let queries = if verdict.number() == 0 { plan::some(random, sheet) } else { vec![plan::one(random)] };
         self.offer(verdict);
         for call in queries {
-            self.offer(Case::new(sheet, &rust, call)?);
+            let case = Case::new(sheet, &rust, call)?;
+            if let Some(region) = case.region() {
+                self.offer(Case::new(&region, &rust, call.by_words())?);
+            }
+            self.offer(case);
         }
         Ok(())
     }
@@ -134,16 +157,40 @@ impl Case {
         Ok(Case { sheet: sheet.to_vec(), call, answer })
     }
 
-    /// The calls give another answer: a number, or a lent byte.
+    /// The calls give another answer: a number, or a lent byte; or the sibling's is not the same.
     fn differs(&self, calls: &Calls) -> bool {
         let mut lent = self.call.to_lend();
         let number = |which: usize| self.call.ask(calls, &self.sheet, &mut lent, which as u32);
         let numbers: Vec<u64> = (0..self.answer.numbers.len()).map(number).collect();
-        numbers != self.answer.numbers || lent != self.answer.lent
+        numbers != self.answer.numbers || lent != self.answer.lent || !self.all_same(calls)
     }
 
+    /// As the replay has it: lent 11 bytes more than the numbers take, the sibling puts them and leaves the rest; lent one byte less it leaves all. Either way
+    /// it returns number 0 and leaves the same words.
+    fn all_same(&self, calls: &Calls) -> bool {
+        let numbers = &self.answer.numbers[..self.call.numbers()];
+        let same = |length: usize| {
+            let (mut words, mut lent, mut expected) = (self.call.to_lend(), to_lend(length), to_lend(length));
+            let number = self.call.ask_all(calls, &self.sheet, &mut words, &mut lent);
+            number == paper::put(numbers, &mut expected) && lent == expected && words == self.answer.lent
+        };
+        self.call.is_by_words() || same(8 * numbers.len() + 11) && same(8 * numbers.len() - 1)
+    }
+
+    /// The refusal's number.
     fn number(&self) -> u64 {
+        if self.call.is_by_words() {
+            return 0;
+        }
         self.answer.numbers[0]
+    }
+
+    /// The words of the region that a check was made of.
+    fn region(&self) -> Option<Vec<u8>> {
+        let (Call::BaseValid { mask, region, .. } | Call::Contains { mask, region, .. }) = self.call else { return None };
+        let mut lent = [0; 64 * 64];
+        paper::relocations(&self.sheet, mask, &mut lent);
+        (self.number() == 0).then(|| lent[64 * region as usize..][..64].to_vec())
     }
 
     fn is_large(&self) -> bool {
@@ -156,11 +203,17 @@ impl Case {
             Call::Relocations { .. } => 1,
             Call::BaseValid { .. } => 2,
             Call::Contains { .. } => 3,
+            Call::RegionBaseValid { .. } => 4,
+            Call::RegionContains { .. } => 5,
         }
     }
 
     fn group(&self) -> Group {
-        let found = if self.call == Call::Verdict { 0 } else { self.answer.numbers[3].min(6) };
+        let found = match self.call {
+            Call::Verdict => 0,
+            Call::RegionBaseValid { .. } | Call::RegionContains { .. } => self.answer.numbers[0],
+            _ => self.answer.numbers[3].min(6),
+        };
         (self.code(), self.number(), found, self.is_large())
     }
 
@@ -171,6 +224,7 @@ impl Case {
             (true, _, _) => 0,
             (_, 0, Call::Verdict) => 24,
             (_, 0, Call::Relocations { .. }) => 8,
+            (_, _, Call::RegionBaseValid { .. } | Call::RegionContains { .. }) => 5,
             (_, 0, _) => 12,
             (_, 35..=37, _) | (_, _, Call::Verdict) => 6,
             _ => 1,
@@ -179,22 +233,24 @@ impl Case {
 
     /// How many cases are taken of one call and answer: fewer where it names a row, so that rows and details differ.
     fn room_of_answer(&self) -> usize {
-        match (self.number(), self.call, self.answer.numbers[1]) {
-            (0, Call::BaseValid { .. } | Call::Contains { .. }, _) => 12,
-            (35..=37, _, _) => 6,
-            (_, _, 0) => 4,
+        match (self.number(), self.call) {
+            (_, Call::RegionBaseValid { .. } | Call::RegionContains { .. }) => 5,
+            (0, Call::BaseValid { .. } | Call::Contains { .. }) => 12,
+            (35..=37, _) => 6,
+            _ if self.answer.numbers[1] == 0 => 4,
             _ => 2,
         }
     }
 
-    /// A head of 32 bytes, then the sheet: call, who answered (1 the Rust), two zero bytes, mask u32, region u64, base or gpa u64, lent bytes u32,
-    /// the sheet's bytes u32.
+    /// A head of 32 bytes, then the sheet or the region's bytes: call, who answered (1 the Rust), two zero bytes, mask u32, region u64, base or gpa u64, lent bytes u32,
+    /// how many bytes follow u32.
     fn bytes(&self) -> Vec<u8> {
         let (region, value, lent) = match self.call {
             Call::Verdict => (0, 0, 0),
             Call::Relocations { lent, .. } => (0, 0, lent),
             Call::BaseValid { region, base, .. } => (region, base, 0),
             Call::Contains { region, gpa, .. } => (region, gpa, 0),
+            Call::RegionBaseValid { base: value } | Call::RegionContains { gpa: value } => (0, value, 0),
         };
         let mut bytes = vec![self.code(), u8::from(self.answer.by_rust), 0, 0];
         bytes.extend(self.call.mask().to_le_bytes());
@@ -206,7 +262,7 @@ impl Case {
         bytes
     }
 
-    /// Who answered, the call, every number, and of a region list the lent bytes afterwards, eight to a group.
+    /// Who answered, the call, every number, of a region list the lent bytes afterwards, eight to a group, and that the sibling's answer is the same.
     fn line(&self) -> String {
         let who = if self.answer.by_rust { "rust" } else { "01" };
         let call = match self.call {
@@ -214,10 +270,13 @@ impl Case {
             Call::Relocations { mask, lent } => format!("relocations mask {mask} lent {lent}"),
             Call::BaseValid { mask, region, base } => format!("relocation_base_valid mask {mask} region {region} base {base}"),
             Call::Contains { mask, region, gpa } => format!("contains mask {mask} region {region} gpa {gpa}"),
+            Call::RegionBaseValid { base } => format!("region_base_valid base {base}"),
+            Call::RegionContains { gpa } => format!("region_contains gpa {gpa}"),
         };
         let numbers: String = self.answer.numbers.iter().map(|number| format!(" {number}")).collect();
         let bytes: String = self.answer.lent.chunks(8).map(|group| format!(" {}", hex(group))).collect();
         let bytes = if let Call::Relocations { .. } = self.call { format!(" bytes{bytes}") } else { bytes };
-        format!("{who} {call}:{numbers}{bytes}\n")
+        let all = if self.call.is_by_words() { "" } else { " all same" };
+        format!("{who} {call}:{numbers}{bytes}{all}\n")
     }
 }

@@ -1,6 +1,6 @@
 //! Runs over many sheets: the stored samples, the short ones, and random ones.
 
-use crate::compare::{check, Call, Difference, Rust};
+use crate::compare::{check, Call, Difference, Extent, Rust};
 use crate::random::Random;
 use crate::tally::Tally;
 use crate::{generate, plan, short};
@@ -20,28 +20,27 @@ impl<'a> Run<'a> {
     /// The verdict, then queries: one of a refused sheet; of an accepted one some, or all once in 256 times.
     pub fn sheet(&mut self, random: &mut Random, sheet: &[u8]) -> Result<(), Difference> {
         let rust = Rust::of(sheet);
-        let number = check(self.calls, sheet, &rust, Call::Verdict)?;
-        self.count(&rust, number);
-        let queries = match number {
+        let queries = match self.verdict(sheet, &rust, random.next())? {
             0 if random.one_in(256) => plan::all(sheet),
             0 => plan::some(random, sheet),
             _ => vec![plan::one(random)],
         };
-        self.ask(sheet, &rust, &queries)
+        self.queries(sheet, &rust, &queries, random.next())
     }
 
-    /// A sheet with queries that were chosen beforehand.
-    fn queries(&mut self, sheet: &[u8], queries: &[Call]) -> Result<(), Difference> {
-        let rust = Rust::of(sheet);
-        let number = check(self.calls, sheet, &rust, Call::Verdict)?;
-        self.count(&rust, number);
-        self.ask(sheet, &rust, queries)
+    /// The verdict on a sheet. Gives its number.
+    pub fn verdict(&mut self, sheet: &[u8], rust: &Rust, case: u64) -> Result<u64, Difference> {
+        let number = check(self.calls, sheet, rust, Call::Verdict, Extent::Case(case))?.number;
+        self.count(rust, number);
+        Ok(number)
     }
 
-    fn ask(&mut self, sheet: &[u8], rust: &Rust, queries: &[Call]) -> Result<(), Difference> {
-        for &query in queries {
-            let number = check(self.calls, sheet, rust, query)?;
-            self.tally.queries[number as usize] += 1;
+    /// Queries of the sheet.
+    pub fn queries(&mut self, sheet: &[u8], rust: &Rust, queries: &[Call], case: u64) -> Result<(), Difference> {
+        for (turn, &query) in (0..).zip(queries) {
+            let agreed = check(self.calls, sheet, rust, query, Extent::Case(case.wrapping_add(turn)))?;
+            self.tally.queries[agreed.number as usize] += 1;
+            self.tally.regions += agreed.regions;
         }
         Ok(())
     }
@@ -56,7 +55,8 @@ impl<'a> Run<'a> {
         ended?;
         let mut ended = Ok(());
         short::every_base(&mut |sheet, queries| {
-            ended = self.queries(sheet, queries);
+            let (rust, case) = (Rust::of(sheet), self.tally.cases);
+            ended = self.verdict(sheet, &rust, case).and_then(|_| self.queries(sheet, &rust, queries, case));
             ended.is_ok()
         });
         ended
@@ -86,13 +86,18 @@ pub fn random_cases(calls: &Calls, seed: u64, from: u64, step: usize, to: u64) -
     (run.tally, None)
 }
 
+/// The work on each of several threads, which are numbered from 0.
+pub fn on_threads<T: Send>(threads: usize, work: impl Fn(u64) -> T + Sync) -> Vec<T> {
+    let work = &work;
+    std::thread::scope(|scope| {
+        let started: Vec<_> = (0..threads as u64).map(|thread| scope.spawn(move || work(thread))).collect();
+        started.into_iter().map(|thread| thread.join().unwrap()).collect()
+    })
+}
+
 /// The same on several threads. Gives the difference of the lowest case.
 pub fn random_threads(calls: &Calls, seed: u64, threads: usize, to: u64) -> (Tally, Option<(u64, Difference)>) {
-    let results: Vec<_> = std::thread::scope(|scope| {
-        let start = |thread: usize| scope.spawn(move || random_cases(calls, seed, thread as u64, threads, to));
-        let started: Vec<_> = (0..threads).map(start).collect();
-        started.into_iter().map(|thread| thread.join().unwrap()).collect()
-    });
+    let results = on_threads(threads, |thread| random_cases(calls, seed, thread, threads, to));
     let mut tally = Tally::default();
     let mut first: Option<(u64, Difference)> = None;
     for (part, difference) in results {

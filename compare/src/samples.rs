@@ -1,6 +1,6 @@
 //! Stored sheets, sheets for other programs, and single sheets.
 
-use crate::compare::{check, Call, Rust};
+use crate::compare::{check, Call, Extent, Rust};
 use crate::library::LIBRARY;
 use crate::random::Random;
 use crate::sheet::hex;
@@ -24,7 +24,7 @@ pub fn replay(calls: &Calls, folder: &str) -> Result<(), String> {
         let rust = Rust::of(&sheet);
         with_rust += u64::from(rust.judged.is_some());
         for call in [vec![Call::Verdict], plan::all(&sheet)].concat() {
-            check(calls, &sheet, &rust, call).map_err(|d| format!("sample {name}: {:?}: {}", d.call, d.what))?;
+            check(calls, &sheet, &rust, call, Extent::All).map_err(|d| format!("sample {name}: {:?}: {}", d.call, d.what))?;
         }
         count += 1;
     }

@@ -23,11 +23,11 @@ pub fn every(each: Each) -> bool {
         region_contexts,
         lengths_and_bytes,
     ];
-    parts.into_iter().all(|part| part(each)) && limits(each) && three_regions(each) && far_areas(each) && behind_a_fault(each)
+    limits(each) && parts.into_iter().all(|part| part(each)) && three_regions(each) && far_areas(each) && behind_a_fault(each)
 }
 
 /// Calls `each` with every choice of one number from each set.
-fn product(sets: &[&[u64]], each: &mut dyn FnMut(&[u64]) -> bool) -> bool {
+pub fn product(sets: &[&[u64]], each: &mut dyn FnMut(&[u64]) -> bool) -> bool {
     fn choose(sets: &[&[u64]], chosen: &mut Vec<u64>, each: &mut dyn FnMut(&[u64]) -> bool) -> bool {
         let Some((first, rest)) = sets.split_first() else { return each(chosen) };
         first.iter().all(|&value| {

@@ -1,6 +1,6 @@
 //! The smallest sheet near a given one on which two answers still differ: rows dropped, opaque bytes cut, fields set to 0.
 
-use crate::compare::{check, Call, Difference, Rust};
+use crate::compare::{check, Call, Difference, Extent, Rust};
 use crate::sheet::{fields, fields_length, hex, Image};
 use calls::Calls;
 
@@ -16,10 +16,10 @@ pub fn smallest(calls: &Calls, difference: Difference) -> Difference {
 /// The first difference of the same sort on a sheet or call that is smaller in some way, the greatest steps first.
 fn smaller(calls: &Calls, from: &Difference) -> Option<Difference> {
     let differs = |sheet: &[u8], call: Call| {
-        let found = check(calls, sheet, &Rust::of(sheet), call).err()?;
+        let found = check(calls, sheet, &Rust::of(sheet), call, Extent::All).err()?;
         (found.between == from.between).then_some(found)
     };
-    let image = Image::parse(&from.sheet);
+    let image = Image::parse(&from.sheet).filter(|_| !from.call.is_by_words());
     let by_rows = image.iter().flat_map(|image| edits(image).into_iter().map(|edit| edited(image, &edit)));
     let by_bytes = bytes(&from.sheet).into_iter();
     let sheets = by_rows.chain(by_bytes).filter(|sheet| *sheet != from.sheet);
@@ -94,6 +94,8 @@ fn bytes(sheet: &[u8]) -> Vec<Vec<u8>> {
 fn calls_below(call: Call) -> Vec<Call> {
     match call {
         Call::Verdict => vec![],
+        Call::RegionBaseValid { base } => smaller_values(base).into_iter().map(|base| Call::RegionBaseValid { base }).collect(),
+        Call::RegionContains { gpa } => smaller_values(gpa).into_iter().map(|gpa| Call::RegionContains { gpa }).collect(),
         Call::Relocations { mask, lent } => {
             let masks = smaller_values(u64::from(mask)).into_iter().map(|mask| Call::Relocations { mask: mask as u32, lent });
             masks
@@ -115,9 +117,10 @@ fn calls_below(call: Call) -> Vec<Call> {
     }
 }
 
-/// The difference as text: what differs, the call, and the sheet in hexadecimal digits.
+/// The difference as text: what differs, the call, and the sheet or the region's words in hexadecimal digits.
 pub fn text(difference: &Difference) -> String {
     let length = difference.sheet.len();
     let digits = hex(&difference.sheet[..length.min(2000)]);
-    format!("{:?}: {}\n  sheet of {length} bytes: {digits}", difference.call, difference.what)
+    let of = if difference.call.is_by_words() { "region" } else { "sheet" };
+    format!("{:?}: {}\n  {of} of {length} bytes: {digits}", difference.call, difference.what)
 }

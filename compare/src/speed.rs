@@ -2,7 +2,7 @@
 
 use crate::sheet::{Image, Row};
 use crate::short::{native, page_table, region, vbs};
-use crate::{paper, plain};
+use crate::{loader, paper, plain};
 use calls::Calls;
 use oracle::{Headers, IgvmFile};
 use std::hint::black_box;
@@ -41,12 +41,17 @@ pub enum Side {
     Bytes,
     /// `relocations` on a file that stands ready
     Alone,
-    /// the library's verdict on the same bytes
+    /// the library's verdict on the same bytes, one number
     Verdict,
 }
 use Side::{Alone, Bytes, Library, Plain, Ready, Verdict};
 
-const SIDES: [(&str, Side); 6] = [("library", Library), ("plain", Plain), ("rust", Ready), ("bytes", Bytes), ("alone", Alone), ("verdict", Verdict)];
+const SIDES: [(&str, Side); 6] =
+    [("library", Library), ("plain", Plain), ("rust", Ready), ("bytes", Bytes), ("alone", Alone), ("verdict", Verdict)];
+
+/// The columns of a line behind the case's name.
+const COLUMNS: [&str; 14] =
+    ["rows", "bytes", "library", "per row", "plain", "ratio", "rust", "ratio", "from bytes", "ratio", "alone", "ratio", "verdict", "ratio"];
 
 /// What is asked of an image.
 #[derive(Clone, Copy, PartialEq, Eq)]
@@ -55,10 +60,14 @@ pub enum Question {
     Accepted,
     /// the verdict, which refuses with this number
     Refused(u64),
+    /// all numbers of the verdict, which accepts
+    Numbers,
     /// the regions of mask 1 of an accepted image
     Relocations,
+    /// what a loader does with the headers, by crate sapyullu
+    Loader,
 }
-use Question::{Accepted, Refused, Relocations};
+use Question::{Accepted, Loader, Numbers, Refused, Relocations};
 
 /// An image, and what is asked of it.
 pub struct Case {
@@ -75,8 +84,7 @@ pub fn run(calls: &Calls, settings: &Settings) -> Result<(), String> {
         return Err("no such side".into());
     }
     println!("nanoseconds of a call, the best of {} rounds; a ratio is the library's time to the one before it", settings.rounds);
-    let columns = ["rows", "bytes", "library", "per row", "plain", "ratio", "rust", "ratio", "from bytes", "ratio", "alone", "ratio", "verdict", "ratio"];
-    println!("{:<24}{}", "case", columns.map(|column| format!("{column:>11}")).concat());
+    println!("{:<24}{}", "case", COLUMNS.map(|column| format!("{column:>11}")).concat());
     for case in settings.cases()? {
         case.check();
         let times = if settings.side.is_some() { 1 } else { case.times() };
@@ -124,6 +132,10 @@ impl Case {
         assert_eq!(paper::verdict(&self.sheet)[0], self.number(), "{}: document 01", self.name);
         let judged = self.headers.verdict().expect("no panic");
         assert_eq!(judged.numbers[0], self.number(), "{}: the Rust", self.name);
+        if let Some(load) = loader::BY_LIBRARY.filter(|_| self.question == Loader) {
+            let hold = load(&self.headers).0;
+            assert_eq!((hold, loader::by_rust(self.headers.clone()).0), (63, 63), "{}: both checks hold for each region", self.name);
+        }
     }
 
     /// How many calls are measured at a time.
@@ -135,25 +147,29 @@ impl Case {
     pub fn number(&self) -> u64 {
         match self.question {
             Refused(number) => number,
-            Accepted | Relocations => 0,
+            Accepted | Numbers | Relocations | Loader => 0,
         }
     }
 
-    /// `relocations` alone, and the verdict before it, are no sides of a verdict, and plain Rust has no region list.
+    /// `relocations` alone and the verdict for one number are no sides of that verdict, plain Rust has no region list, and a loader starts from headers.
     pub fn has(&self, side: Side) -> bool {
         match side {
-            Alone | Verdict => self.question == Relocations,
-            Plain => self.question != Relocations,
-            Library | Ready | Bytes => true,
+            Alone => self.question == Relocations,
+            Verdict => matches!(self.question, Numbers | Relocations),
+            Plain => !matches!(self.question, Relocations | Loader),
+            Bytes => self.question != Loader,
+            Library | Ready => true,
         }
     }
 
     fn ask(&self, calls: &Calls, lent: &mut [u8]) -> u64 {
         let sheet = black_box(&self.sheet[..]);
-        if self.question == Relocations {
-            return (calls.relocations)(sheet, 1, lent, 0);
+        match self.question {
+            Relocations => (calls.relocations)(sheet, 1, lent, 0),
+            Numbers => (calls.verdict_numbers)(sheet, &mut lent[..48]),
+            Accepted | Refused(_) => (calls.verdict)(sheet, 0),
+            Loader => unreachable!("a loader makes more than one call"),
         }
-        (calls.verdict)(sheet, 0)
     }
 
     fn plain(&self) -> Result<[u64; 3], paper::Refusal> {
@@ -173,6 +189,7 @@ impl Case {
     /// A call on the sheet's bytes is made once before: the copies of the headers have just been made too, so that all sides find what they read in the cache.
     fn round(&self, calls: &Calls, side: Side, times: usize) -> Duration {
         match side {
+            Library if self.question == Loader => self.load(times),
             Library => {
                 let mut lent = [0; 64 * 64];
                 self.ask(calls, &mut lent);
@@ -187,6 +204,13 @@ impl Case {
         }
     }
 
+    /// So many loadings by crate sapyullu.
+    fn load(&self, times: usize) -> Duration {
+        let load = loader::BY_LIBRARY.expect("the library");
+        load(&self.headers);
+        time(vec![(); times], |()| load(black_box(&self.headers)))
+    }
+
     /// So many calls of a side that is not the library.
     pub fn peer(&self, side: Side, times: usize) -> Duration {
         match side {
@@ -194,6 +218,7 @@ impl Case {
                 let _ = self.plain();
                 time(vec![(); times], |()| self.plain())
             }
+            Ready if self.question == Loader => time(vec![self.headers.clone(); times], loader::by_rust),
             Ready => time(vec![self.headers.clone(); times], |headers| self.rust(headers)),
             Bytes => time(vec![(); times], |()| self.rust(Headers::decode(black_box(&self.sheet)).expect("a readable image"))),
             Alone => {
@@ -263,7 +288,12 @@ fn cases() -> Vec<Case> {
         add("relocations", rows, initializations(rows), Relocations);
     }
     add("relocations-table", 64, with_table(64), Relocations);
+    add("numbers", 64, initializations(64), Numbers);
+    if loader::BY_LIBRARY.is_some() {
+        add("loader", 64, with_table(64), Loader);
+    }
     cases.push(Case::new("relocations-b".into(), &b(), Relocations));
+    cases.push(Case::new("numbers-b".into(), &b(), Numbers));
     cases
 }
 

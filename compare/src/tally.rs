@@ -15,13 +15,15 @@ pub struct Tally {
     pub rust_verdicts: Histogram,
     /// queries by number
     pub queries: Histogram,
+    /// regions of lists and of checks that were checked by their words too
+    pub regions: u64,
     /// rows of kind 46 for which the Rust's error names X64VbsVpContext
     pub names_other_kind: u64,
 }
 
 impl Default for Tally {
     fn default() -> Self {
-        Tally { cases: 0, with_rust: 0, verdicts: [0; 38], rust_verdicts: [0; 38], queries: [0; 38], names_other_kind: 0 }
+        Tally { cases: 0, with_rust: 0, verdicts: [0; 38], rust_verdicts: [0; 38], queries: [0; 38], regions: 0, names_other_kind: 0 }
     }
 }
 
@@ -29,6 +31,7 @@ impl Tally {
     pub fn add(&mut self, other: &Tally) {
         self.cases += other.cases;
         self.with_rust += other.with_rust;
+        self.regions += other.regions;
         self.names_other_kind += other.names_other_kind;
         for number in 0..38 {
             self.verdicts[number] += other.verdicts[number];
@@ -55,6 +58,7 @@ impl Tally {
             let [all, rust, queries] = [self.verdicts[number], self.rust_verdicts[number], self.queries[number]];
             println!("{number:>6} {all:>12} {rust:>12} {queries:>12}");
         }
+        println!("{} regions were checked by their words too", self.regions);
         println!("the Rust named X64VbsVpContext for a row of kind 46: {} times", self.names_other_kind);
     }
 }

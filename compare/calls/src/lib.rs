@@ -1,10 +1,17 @@
-//! The four calls of a host, by whatever answers them: the library across C linkage, document 01 in Rust, or a wrong copy of that.
+//! The calls of a host, by whatever answers them: the library across C linkage, document 01 in Rust, or a wrong copy of that.
 
-/// The calls. `which` names the number of the answer that a call returns.
+/// The calls. `which` names the number of the answer that a call returns; its sibling puts all numbers into the bytes lent for them and returns
+/// number 0. A region's bytes are its eight words, as `relocations` puts them.
 #[derive(Clone, Copy)]
 pub struct Calls {
     pub verdict: fn(sheet: &[u8], which: u32) -> u64,
     pub relocations: fn(sheet: &[u8], mask: u32, words: &mut [u8], which: u32) -> u64,
     pub relocation_base_valid: fn(sheet: &[u8], mask: u32, region: u64, base: u64, which: u32) -> u64,
     pub contains: fn(sheet: &[u8], mask: u32, region: u64, gpa: u64, which: u32) -> u64,
+    pub verdict_numbers: fn(sheet: &[u8], numbers: &mut [u8]) -> u64,
+    pub relocations_numbers: fn(sheet: &[u8], mask: u32, words: &mut [u8], numbers: &mut [u8]) -> u64,
+    pub relocation_base_valid_numbers: fn(sheet: &[u8], mask: u32, region: u64, base: u64, numbers: &mut [u8]) -> u64,
+    pub contains_numbers: fn(sheet: &[u8], mask: u32, region: u64, gpa: u64, numbers: &mut [u8]) -> u64,
+    pub region_base_valid: fn(region: &[u8], base: u64) -> u64,
+    pub region_contains: fn(region: &[u8], gpa: u64) -> u64,
 }

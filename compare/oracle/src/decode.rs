@@ -1,4 +1,4 @@
-//! From a sheet's bytes to the Rust's headers, by document 01's table. Opaque bytes become defaults; data keeps its length.
+//! From a sheet's bytes to the Rust's headers, by document 01's table. Opaque bytes become defaults; data stays as it is.
 
 use crate::*;
 
@@ -54,9 +54,9 @@ impl<'a> Bytes<'a> {
         }
     }
 
-    /// The number of bytes left, all of which are taken.
-    fn rest(&mut self) -> usize {
-        std::mem::take(&mut self.0).len()
+    /// The bytes left, all of which are taken.
+    fn rest(&mut self) -> &'a [u8] {
+        std::mem::take(&mut self.0)
     }
 }
 
@@ -96,13 +96,13 @@ impl Headers {
                     1 => self.initializations.push(initialization(kind, &mut body)?),
                     _ => self.directives.push(directive(kind, &mut body)?),
                 }
-                if body.rest() != 0 {
+                if !body.rest().is_empty() {
                     return None;
                 }
                 self.kinds.push(kind);
             }
         }
-        (rest.rest() == 0).then_some(())
+        rest.rest().is_empty().then_some(())
     }
 }
 
@@ -183,9 +183,9 @@ fn directive(kind: u32, body: &mut Bytes) -> Option<IgvmDirectiveHeader> {
             compatibility_mask: body.u32()?,
             flags: IgvmPageDataFlags(body.u32()?),
             data_type: IgvmPageDataType(body.u16()?),
-            data: vec![0; body.rest()],
+            data: body.rest().to_vec(),
         },
-        33 => ParameterArea { number_of_bytes: body.u64()?, parameter_area_index: body.u32()?, initial_data: vec![0; body.rest()] },
+        33 => ParameterArea { number_of_bytes: body.u64()?, parameter_area_index: body.u32()?, initial_data: body.rest().to_vec() },
         34..=43 => parameter(kind)(IGVM_VHS_PARAMETER { parameter_area_index: body.u32()?, byte_offset: body.u32()? }),
         44 => RequiredMemory {
             gpa: body.u64()?,
@@ -200,8 +200,8 @@ fn directive(kind: u32, body: &mut Bytes) -> Option<IgvmDirectiveHeader> {
             parameter_area_index: body.u32()?,
         }),
         51 => ErrorRange { gpa: body.u64()?, compatibility_mask: body.u32()?, size_bytes: body.u32()? },
-        52 => snp_id_block(body.u32()?, body.rest()),
-        53 => vbs_measurement(body.u32()?, body.rest()),
+        52 => opaque(snp_id_block, body)?,
+        53 => opaque(vbs_measurement, body)?,
         _ => return None,
     })
 }
@@ -220,15 +220,22 @@ fn context(kind: u32, body: &mut Bytes) -> Option<IgvmDirectiveHeader> {
     let header = match kind {
         45 => SnpVpContext { gpa, compatibility_mask, vp_index: body.u16()?, vmsa: Box::default() },
         46 => X64NativeVpContext { compatibility_mask, vp_index: body.u16()?, context: Box::default() },
-        47 => X64VbsVpContext { compatibility_mask, vtl: body.vtl()?, registers: vec![X86Register::Rip(0); body.rest() / 32] },
-        48 => AArch64VbsVpContext { compatibility_mask, vtl: body.vtl()?, registers: vec![AArch64Register::Pc(0); body.rest() / 32] },
+        47 => X64VbsVpContext { compatibility_mask, vtl: body.vtl()?, registers: vec![X86Register::Rip(0); body.rest().len() / 32] },
+        48 => AArch64VbsVpContext { compatibility_mask, vtl: body.vtl()?, registers: vec![AArch64Register::Pc(0); body.rest().len() / 32] },
         _ => AArch64CcaVpContext { compatibility_mask, vp_index: body.u16()?, context: Box::default() },
     };
     body.rest();
     Some(header)
 }
 
-fn snp_id_block(compatibility_mask: u32, _opaque: usize) -> IgvmDirectiveHeader {
+/// Kinds 52 and 53: a mask and opaque bytes.
+fn opaque(header: fn(u32) -> IgvmDirectiveHeader, body: &mut Bytes) -> Option<IgvmDirectiveHeader> {
+    let compatibility_mask = body.u32()?;
+    body.rest();
+    Some(header(compatibility_mask))
+}
+
+fn snp_id_block(compatibility_mask: u32) -> IgvmDirectiveHeader {
     IgvmDirectiveHeader::SnpIdBlock {
         compatibility_mask,
         author_key_enabled: 0,
@@ -247,7 +254,7 @@ fn snp_id_block(compatibility_mask: u32, _opaque: usize) -> IgvmDirectiveHeader 
     }
 }
 
-fn vbs_measurement(compatibility_mask: u32, _opaque: usize) -> IgvmDirectiveHeader {
+fn vbs_measurement(compatibility_mask: u32) -> IgvmDirectiveHeader {
     IgvmDirectiveHeader::VbsMeasurement {
         compatibility_mask,
         version: 0,

@@ -241,4 +241,22 @@ impl Relocated {
             region.vtl as u64,
         ]
     }
+
+    /// The region of eight words, if it can hold them: flags up to 7, a VP index below 2^16, a VTL up to 2.
+    pub fn region(words: [u64; 8]) -> Option<IgvmRelocatableRegion> {
+        let [base_gpa, size, relocation_alignment, minimum_relocation_gpa, maximum_relocation_gpa, flags, vp_index, vtl] = words;
+        (flags < 8).then_some(())?;
+        Some(IgvmRelocatableRegion {
+            base_gpa,
+            size,
+            relocation_alignment,
+            minimum_relocation_gpa,
+            maximum_relocation_gpa,
+            is_vtl2: flags & 1 != 0,
+            apply_rip_offset: flags & 2 != 0,
+            apply_gdtr_offset: flags & 4 != 0,
+            vp_index: u16::try_from(vp_index).ok()?,
+            vtl: Vtl::try_from(u8::try_from(vtl).ok()?).ok()?,
+        })
+    }
 }

@@ -1,0 +1,257 @@
+//! Sheets that the adapter of crate sapyullu makes of the Rust's headers. They have the rows of the sheet that the headers were decoded from, and the
+//! answers on them are the Rust's on the headers: those of the calls, and those of that crate's functions.
+
+use crate::compare::{Call, Difference, Rust};
+use crate::random::Random;
+use crate::run::{on_threads, Run};
+use crate::sheet::{fields_length, hex, kinds, Image, Row};
+use crate::{generate, paper, plan, short, shrink};
+use calls::Calls;
+use oracle::Headers;
+
+/// What the adapter's macro makes.
+pub mod made {
+    sapyullu::igvm_adapter!(oracle, oracle::igvm_defs);
+}
+
+/// The sheet of the headers.
+pub fn sheet(headers: &Headers) -> Result<Vec<u8>, sapyullu::SheetError> {
+    made::sheet(headers.revision, &headers.platforms, &headers.initializations, &headers.directives)
+}
+
+/// The readable ones of the short sheets, then so many random images.
+pub fn run(calls: &Calls, seed: u64, cases: u64, threads: usize) -> Result<(), String> {
+    let start = std::time::Instant::now();
+    let mut seen = Seen::new(calls);
+    seen.short_sheets(seed)?;
+    let part = |first: u64| {
+        let mut seen = Seen::new(calls);
+        seen.images(seed, (first..cases).step_by(threads)).map(|()| seen)
+    };
+    for part in on_threads(threads, part) {
+        seen.add(&part?);
+    }
+    seen.every_kind()?;
+    let tally = &seen.run.tally;
+    println!("adapter: {} images agree, {} of them with the Rust too, {} accepted,", tally.cases, tally.with_rust, tally.verdicts[0]);
+    println!("  {} regions, {} region lists by crate sapyullu; {:.1?}", tally.regions, seen.lists, start.elapsed());
+    Ok(())
+}
+
+/// The comparison of one image after another, with its counts.
+struct Seen<'a> {
+    run: Run<'a>,
+    /// a bit for each kind of row
+    kinds: u64,
+    /// region lists by crate sapyullu
+    lists: u64,
+}
+
+impl<'a> Seen<'a> {
+    fn new(calls: &'a Calls) -> Self {
+        Seen { run: Run::new(calls), kinds: 0, lists: 0 }
+    }
+
+    fn add(&mut self, other: &Seen) {
+        self.run.tally.add(&other.run.tally);
+        self.kinds |= other.kinds;
+        self.lists += other.lists;
+    }
+
+    /// Every kind of row was met, and every refusal of the Rust's domain with the Rust.
+    fn every_kind(&self) -> Result<(), String> {
+        let missing: Vec<u32> = kinds().filter(|kind| self.kinds & 1 << kind == 0).collect();
+        let refusals = self.run.tally.missing_with_rust();
+        if !missing.is_empty() || !refusals.is_empty() {
+            return Err(format!("adapter: kinds that were not met: {missing:?}, refusals with the Rust: {refusals:?}"));
+        }
+        Ok(())
+    }
+
+    fn short_sheets(&mut self, seed: u64) -> Result<(), String> {
+        let mut ended = Ok(());
+        short::every(&mut |sheet| {
+            if let Some(headers) = Headers::decode(sheet) {
+                let case = self.run.tally.cases;
+                let compared = self.image(&mut Random::new(seed, case), sheet, headers);
+                ended = compared.map_err(|what| text(&format!("readable short sheet {case}"), &what, sheet));
+            }
+            ended.is_ok()
+        });
+        ended
+    }
+
+    fn images(&mut self, seed: u64, cases: impl Iterator<Item = u64>) -> Result<(), String> {
+        for case in cases {
+            let mut random = Random::new(seed ^ 0x6164_6170_7465, case);
+            let sheet = generate::readable_image(&mut random, &[0, 0, 1, 1, 1, 2, 3]).bytes();
+            let headers = Headers::decode(&sheet).expect("a readable image");
+            let compared = self.image(&mut random, &sheet, headers);
+            compared.map_err(|what| text(&format!("image {case} of seed {seed}"), &what, &sheet))?;
+        }
+        Ok(())
+    }
+
+    /// The image of these headers, which were decoded from a sheet.
+    fn image(&mut self, random: &mut Random, decoded: &[u8], headers: Headers) -> Result<(), String> {
+        self.kinds |= headers.kinds.iter().fold(0, |all, kind| all | 1 << kind);
+        let sheet = sheet(&headers).map_err(|error| error.to_string())?;
+        same_rows(decoded, &sheet)?;
+        self.answers(random, &sheet, &Rust::of_headers(Some(headers)))
+    }
+
+    /// The verdict and two region lists, by the calls and by crate sapyullu.
+    fn answers(&mut self, random: &mut Random, sheet: &[u8], rust: &Rust) -> Result<(), String> {
+        let text = |difference: Difference| shrink::text(&difference);
+        let number = self.run.verdict(sheet, rust, random.next()).map_err(text)?;
+        host::same_verdict(sheet)?;
+        if number != 0 {
+            return Ok(());
+        }
+        let masks = plan::masks(sheet);
+        let lent = rust.headers.as_ref().map_or(0, |headers| 64 * headers.initializations.len());
+        for mask in [random.pick(&masks), random.pick(&masks)] {
+            let list = Call::Relocations { mask, lent };
+            self.run.queries(sheet, rust, &[list], random.next()).map_err(text)?;
+            if let Some(found) = rust.relocated(mask)? {
+                self.lists += host::same_list(random, sheet, mask, &found)?;
+            }
+        }
+        Ok(())
+    }
+}
+
+/// A difference as text, with the sheet that the headers were decoded from.
+fn text(place: &str, what: &str, decoded: &[u8]) -> String {
+    let digits = hex(&decoded[..decoded.len().min(2000)]);
+    format!("DIFFERENCE in {place} by the adapter\n{what}\n  the headers are of the sheet of {} bytes: {digits}", decoded.len())
+}
+
+/// The adapter's sheet has the head, the rows and the verdict of the sheet that the headers were decoded from.
+fn same_rows(decoded: &[u8], made: &[u8]) -> Result<(), String> {
+    let (Some(mut expected), Some(image)) = (Image::parse(decoded), Image::parse(made)) else {
+        return Err("the adapter's sheet has no head or no table".into());
+    };
+    expected.lists.iter_mut().flatten().for_each(as_adapted);
+    if image != expected {
+        let rows = image.rows().zip(expected.rows()).find(|(row, other)| row != other);
+        return Err(format!(
+            "the adapter makes another sheet: {}; its row, the one expected: {rows:?}",
+            hex(&made[..made.len().min(2000)])
+        ));
+    }
+    let (by_decoded, by_made) = (paper::verdict(decoded), paper::verdict(made));
+    if by_decoded != by_made {
+        return Err(format!("document 01 says {by_made:?} of the adapter's sheet, {by_decoded:?} of the other"));
+    }
+    Ok(())
+}
+
+/// The row as the adapter writes it: what no decision looks at is 0 or is left out, and a code without a name is the highest.
+fn as_adapted(row: &mut Row) {
+    let most = if row.kind == 1 { 6 } else { 3 };
+    if row.get("type").is_some_and(|code| code > most) {
+        row.set("type", u64::MAX);
+    }
+    match row.kind {
+        17 => row.body[fields_length(17)..].fill(0),
+        32 => row.set("flags", 0),
+        45..=49 | 52 | 53 => row.body.truncate(fields_length(row.kind)),
+        _ => {}
+    }
+}
+
+/// The functions of crate sapyullu, and the methods of its regions.
+#[cfg(library)]
+mod host {
+    use super::made;
+    use crate::random::Random;
+    use crate::{paper, plan};
+    use oracle::{IgvmRelocatableRegion, Relocated};
+    use sapyullu::{List, PageTableRegion, Place};
+
+    /// The verdict is document 01's.
+    pub fn same_verdict(sheet: &[u8]) -> Result<(), String> {
+        let (numbers, by_paper) = (verdict(sheet)?, paper::verdict(sheet));
+        if numbers != by_paper {
+            return Err(format!("sapyullu::verdict says {numbers:?}; document 01 says {by_paper:?}"));
+        }
+        Ok(())
+    }
+
+    /// The numbers of the verdict. A refusal's place is that of its row.
+    fn verdict(sheet: &[u8]) -> Result<[u64; 6], String> {
+        let refusal = match sapyullu::verdict(sheet) {
+            Ok(counts) => return Ok([0, 0, 0, counts.platform_headers, counts.initialization_headers, counts.directive_headers]),
+            Err(refusal) => refusal,
+        };
+        let row = refusal.row.unwrap_or(0);
+        if refusal.place != place(sheet, row) {
+            return Err(format!("sapyullu::verdict refuses row {row} at {:?}", refusal.place));
+        }
+        Ok([refusal.error.number(), row, refusal.detail, 0, 0, 0])
+    }
+
+    /// The list of a row and its index there.
+    fn place(sheet: &[u8], row: u64) -> Option<Place> {
+        let count = |list: usize| u64::from(u16::from_le_bytes([sheet[8 + 2 * list], sheet[9 + 2 * list]]));
+        let (platforms, regions) = (count(0), count(0) + count(1));
+        let (list, before) = match row.checked_sub(1)? {
+            index if index < platforms => (List::Platform, 0),
+            index if index < regions => (List::Initialization, platforms),
+            _ => (List::Directive, regions),
+        };
+        Some(Place { list, index: (row - 1 - before) as usize })
+    }
+
+    /// The regions word for word, the page table, and of each region the checks at a base and an address. Gives 1, for one list.
+    pub fn same_list(random: &mut Random, sheet: &[u8], mask: u32, found: &Relocated) -> Result<u64, String> {
+        let list = sapyullu::relocations(sheet, mask).map_err(|refusal| format!("sapyullu::relocations, mask {mask}: {refusal}"))?;
+        let regions: Vec<[u64; 8]> = list.regions.iter().map(|region| Relocated::words(&made::relocatable_region(region))).collect();
+        let by_rust: Vec<[u64; 8]> = found.regions.iter().map(Relocated::words).collect();
+        let of_table = |t: PageTableRegion| [t.gpa, t.size, t.used_size, u64::from(t.vp_index), made::vtl(t.vtl) as u64];
+        let page_table = list.page_table.map(of_table);
+        if regions != by_rust || page_table != found.page_table {
+            let said = (by_rust, found.page_table);
+            return Err(format!("sapyullu::relocations, mask {mask}: {regions:?}, {page_table:?}; the Rust says {said:?}"));
+        }
+        for (number, (region, other)) in list.regions.iter().zip(&found.regions).enumerate() {
+            let what = same_region(random, (sheet, mask, number as u64), region, other);
+            what.map_err(|what| format!("mask {mask}, region {number}: {what}"))?;
+        }
+        Ok(1)
+    }
+
+    /// A base and an address of a region, by its methods and by the functions on the sheet, are what the Rust says; a base whose sum reaches 2^64 is not valid.
+    fn same_region(
+        random: &mut Random,
+        (sheet, mask, number): (&[u8], u32, u64),
+        region: &sapyullu::IgvmRelocatableRegion,
+        other: &IgvmRelocatableRegion,
+    ) -> Result<(), String> {
+        let words = Some(Relocated::words(other));
+        let (base, gpa) = (random.pick(&plan::bases(words.as_ref())), random.pick(&plan::addresses(words.as_ref())));
+        let valid = [Ok(region.relocation_base_valid(base)), sapyullu::relocation_base_valid(sheet, mask, number, base)];
+        let contained = [Ok(region.contains(gpa)), sapyullu::contains(sheet, mask, number, gpa)];
+        let by_rust = (base.checked_add(other.size).is_some_and(|_| other.relocation_base_valid(base)), other.contains(gpa));
+        if valid != [Ok(by_rust.0); 2] || contained != [Ok(by_rust.1); 2] {
+            return Err(format!("base {base:#x}: {valid:?}, address {gpa:#x}: {contained:?}; the Rust says {by_rust:?}"));
+        }
+        Ok(())
+    }
+}
+
+/// Without the library these functions can't be called.
+#[cfg(not(library))]
+mod host {
+    use crate::random::Random;
+    use oracle::Relocated;
+
+    pub fn same_verdict(_: &[u8]) -> Result<(), String> {
+        Ok(())
+    }
+
+    pub fn same_list(_: &mut Random, _: &[u8], _: u32, _: &Relocated) -> Result<u64, String> {
+        Ok(0)
+    }
+}

@@ -1,0 +1,185 @@
+//! The checks by a region's eight words alone. On any bytes they are held against document 01 and the Rust; of a sheet's regions also against the checks
+//! by the sheet.
+
+use crate::compare::{Between, Call, Difference, Extent, Rust};
+use crate::random::Random;
+use crate::{generate, paper, plan, short};
+use calls::Calls;
+use oracle::Relocated;
+
+/// The words of a region's bytes, if they are as many.
+fn words(region: &[u8]) -> Option<[u64; 8]> {
+    let word = |at: usize| u64::from_le_bytes(std::array::from_fn(|byte| region[8 * at + byte]));
+    (region.len() >= 64).then(|| std::array::from_fn(word))
+}
+
+/// The Rust's answer, where it has one: not for words that no region of its holds, for alignment 0, or for a sum of 2^64 or more.
+pub fn by_rust(region: &[u8], call: Call) -> Option<u64> {
+    let region = words(region).and_then(Relocated::region)?;
+    match call {
+        Call::RegionBaseValid { base } => {
+            base.checked_add(region.size).filter(|_| region.relocation_alignment != 0)?;
+            Some(u64::from(region.relocation_base_valid(base)))
+        }
+        Call::RegionContains { gpa } => {
+            region.base_gpa.checked_add(region.size)?;
+            Some(u64::from(region.contains(gpa)))
+        }
+        _ => None,
+    }
+}
+
+/// The answers to a check by words, compared. Gives the answer.
+pub fn check(calls: &Calls, region: &[u8], call: Call) -> Result<u64, Difference> {
+    let answer = call.ask(calls, region, &mut [], 0);
+    let by_paper = call.ask(&paper::CALLS, region, &mut [], 0);
+    for (other, between, who) in [(by_rust(region, call), Between::Rust, "the Rust"), (Some(by_paper), Between::Paper, "document 01")] {
+        if let Some(other) = other.filter(|&other| other != answer) {
+            let what = format!("the answer is {answer}; {who} says {other}");
+            return Err(Difference { sheet: region.to_vec(), call, what, between });
+        }
+    }
+    Ok(answer)
+}
+
+// ---- the regions of a sheet
+
+/// Of an accepted answer: every region of a list at a base and an address, or the region of a check. `found` is how many regions the list has, and their
+/// words. Gives how many regions were checked.
+pub fn alike(calls: &Calls, sheet: &[u8], rust: &Rust, call: Call, found: (u64, &[u8]), extent: Extent) -> Result<u64, Difference> {
+    match call {
+        Call::Relocations { mask, .. } => {
+            for (region, bytes) in (0..found.0).zip(found.1.chunks_exact(64)) {
+                for call in places(mask, region, bytes, extent) {
+                    same(calls, sheet, rust, call, bytes)?;
+                }
+            }
+            Ok(found.0)
+        }
+        Call::BaseValid { mask, region, .. } | Call::Contains { mask, region, .. } => {
+            let mut lent = [0; 64 * 64];
+            (calls.relocations)(sheet, mask, &mut lent, 0);
+            same(calls, sheet, rust, call, &lent[64 * region as usize..][..64])?;
+            Ok(1)
+        }
+        Call::Verdict | Call::RegionBaseValid { .. } | Call::RegionContains { .. } => Ok(0),
+    }
+}
+
+/// A base and an address for a region of a list: others for the next region, and for another case.
+fn places(mask: u32, region: u64, bytes: &[u8], extent: Extent) -> [Call; 2] {
+    let turn = Extent::Case(region.wrapping_add(extent.turn()));
+    let words = words(bytes);
+    let (base, gpa) = (turn.of(&plan::bases(words.as_ref()))[0], turn.of(&plan::addresses(words.as_ref()))[0]);
+    [Call::BaseValid { mask, region, base }, Call::Contains { mask, region, gpa }]
+}
+
+/// A check by the region's words says what it says by the sheet, and what the Rust says of its own region.
+fn same(calls: &Calls, sheet: &[u8], rust: &Rust, call: Call, region: &[u8]) -> Result<(), Difference> {
+    let answer = check(calls, region, call.by_words())?;
+    let differ = |between: Between, what: String| Difference { sheet: sheet.to_vec(), call, what, between };
+    let by_rust = rust.answer(call, &mut []).map_err(|message| differ(Between::Rust, message))?.map(|numbers| numbers[3]);
+    let by_sheet = Some(call.ask(calls, sheet, &mut [], 3));
+    for (other, between, who) in [(by_rust, Between::Rust, "the Rust says"), (by_sheet, Between::Paper, "by the sheet it is")] {
+        if let Some(other) = other.filter(|&other| other != answer) {
+            return Err(differ(between, format!("by the region's words the answer is {answer}; {who} {other}")));
+        }
+    }
+    Ok(())
+}
+
+// ---- any bytes
+
+/// Checks of bytes that stand where a region's words are looked for, counted.
+#[derive(Default)]
+pub struct Counts {
+    pub checks: u64,
+    with_rust: u64,
+    /// bases that are not valid, and those that are
+    valid: [u64; 2],
+    /// addresses that are not contained, and those that are
+    contained: [u64; 2],
+}
+
+impl Counts {
+    fn check(&mut self, calls: &Calls, region: &[u8], call: Call) -> Result<(), Difference> {
+        self.checks += 1;
+        let answer = check(calls, region, call)?;
+        self.with_rust += u64::from(by_rust(region, call).is_some());
+        let counted = if let Call::RegionBaseValid { .. } = call { &mut self.valid } else { &mut self.contained };
+        counted[answer as usize] += 1;
+        Ok(())
+    }
+
+    /// What was seen, if both checks gave both answers, and the Rust some.
+    pub fn seen(&self) -> Result<String, String> {
+        let Counts { checks, with_rust, valid, contained } = self;
+        let text =
+            format!("{checks}, {with_rust} of them with the Rust too; {} bases valid, {} addresses contained", valid[1], contained[1]);
+        if [[*with_rust, 1], *valid, *contained].as_flattened().contains(&0) {
+            return Err(format!("region checks: some answer was not met: {text}"));
+        }
+        Ok(text)
+    }
+}
+
+/// Both checks on bytes of each sort, then on so many random ones, up to the first difference.
+pub fn any_bytes(calls: &Calls, seed: u64, cases: u64) -> (Counts, Option<Difference>) {
+    let mut counts = Counts::default();
+    let mut ended = Ok(());
+    let mut each = |region: &[u8], base: u64, gpa: u64| {
+        let both = [Call::RegionBaseValid { base }, Call::RegionContains { gpa }];
+        ended = both.into_iter().try_for_each(|call| counts.check(calls, region, call));
+        ended.is_ok()
+    };
+    if every_length(&mut each) && small_words(&mut each) {
+        (0..cases).all(|case| random_bytes(&mut Random::new(seed ^ 0x7265_6769_6F6E, case), &mut each));
+    }
+    (counts, ended.err())
+}
+
+/// What is done with a region's bytes, a base and an address; false stops.
+pub type Each<'a> = &'a mut dyn FnMut(&[u8], u64, u64) -> bool;
+
+/// So many bytes, up to 80, of which the first 64 are a region's that has the base and the address.
+pub fn of_length(length: usize, each: Each) -> bool {
+    let words = [0x5000, 0x3000, 0x1000, 0x2000, 0x9000, 7, 0, 2, u64::MAX, u64::MAX];
+    each(&words.map(u64::to_le_bytes).concat()[..length], 0x6000, 0x7FFF)
+}
+
+/// Every length up to 80: of a region's bytes, zeroes and ones.
+fn every_length(each: Each) -> bool {
+    (0..=80).all(|length| of_length(length, each) && each(&vec![0; length], 0, 0) && each(&vec![0xFF; length], u64::MAX, u64::MAX))
+}
+
+/// Every region of which each word is 0, 1, 2, 2^64 - 2 or 2^64 - 1, with every such base and address.
+fn small_words(each: Each) -> bool {
+    let small: &[u64] = &[0, 1, 2, u64::MAX - 1, u64::MAX];
+    short::product(&[small; 6], &mut |v| {
+        let words = [v[0], v[1], v[2], v[3], v[4], 0, 0, 0];
+        each(&words.map(u64::to_le_bytes).concat(), v[5], v[5])
+    })
+}
+
+/// Words of one sort or of a region, some with alignment 0 or a byte changed, some cut or with bytes behind them.
+pub fn random_bytes(random: &mut Random, each: Each) -> bool {
+    let mut words: [u64; 8] = match random.below(6) {
+        0 => std::array::from_fn(|_| random.next()),
+        1 => std::array::from_fn(|_| random.below(5) as u64),
+        2 => std::array::from_fn(|_| u64::MAX - random.below(5) as u64),
+        3 => std::array::from_fn(|_| 0x1000 * random.below(9) as u64),
+        _ => generate::region_words(random),
+    };
+    if random.one_in(8) {
+        words[2] = 0;
+    }
+    let mut bytes = words.map(u64::to_le_bytes).concat();
+    bytes.extend(random.next().to_le_bytes().repeat(2));
+    if random.one_in(3) {
+        bytes[random.below(64)] = random.next() as u8;
+    }
+    bytes.truncate(if random.one_in(4) { random.below(81) } else { 64 });
+    let words = Some(&words);
+    let (base, gpa) = (random.pick(&plan::bases(words)), random.pick(&plan::addresses(words)));
+    each(&bytes, base, gpa)
+}
