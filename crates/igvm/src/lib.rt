@@ -11,18 +11,20 @@ ghost use Rattle.answers.specs.Numbers.{numberOf, verdictNumbers, relocationNum
 
 // ---- the verdict: 0 number, 1 row, 2 detail, 3 platform rows, 4 initialization rows, 5 directive rows
 
-fn verdict(sheet: &[u8]) -> [u64; 6]
-    ensures { λ r. ⌜ r ≡ verdictNumbers (verdictOf limits (now (sheet .entry))) ⌝ }
+fn verdict(sheet: &[u8], which: u32, lent: &mut [u8]) -> u64
+    ensures { λ r. ⌜ r ≡ numberOf which (verdictNumbers (verdictOf limits (now (sheet .entry)))) ⌝ }
+    ensures { λ _. ⌜ now (lent .exit) ≡ numbersPut (verdictNumbers (verdictOf limits (now (sheet .entry)))) (now (lent .entry)) ⌝ }
 {
-    numbers::verdict_numbers(igvm_file::IgvmFile::new(sheet).verdict)
+    let found = numbers::verdict_numbers(igvm_file::IgvmFile::new(sheet).verdict);
+    numbers::tell(&found, which, lent)
 }
 
 #[no_mangle]
 pub extern "C" fn igvm_verdict(sheet: &[u8], which: u32) -> u64
     ensures { λ r. ⌜ r ≡ numberOf which (verdictNumbers (verdictOf limits (now (sheet .entry)))) ⌝ }
 {
-    let found = verdict(sheet);
-    numbers::number_of(&found, which)
+    let mut none: [u8; 0] = [];
+    verdict(sheet, which, &mut none)
 }
 
 #[no_mangle]
@@ -30,18 +32,18 @@ pub extern "C" fn igvm_verdict_numbers(sheet: &[u8], numbers: &mut [u8]) -> u64
     ensures { λ r. ⌜ r ≡ numberOf 0 (verdictNumbers (verdictOf limits (now (sheet .entry)))) ⌝ }
     ensures { λ _. ⌜ now (numbers .exit) ≡ numbersPut (verdictNumbers (verdictOf limits (now (sheet .entry)))) (now (numbers .entry)) ⌝ }
 {
-    let found = verdict(sheet);
-    lent::put_numbers(numbers, &found);
-    found[0]
+    verdict(sheet, 0, numbers)
 }
 
 // ---- the region list: 0 number, 1 row, 2 detail, 3 count, 4 page table (1 or 0), 5 gpa, 6 size, 7 used size, 8 VP index, 9 VTL. `words` takes the regions' words
 
-fn region_list(sheet: &[u8], mask: u32, words: &mut [u8]) -> [u64; 10]
-    ensures { λ r. ⌜ r ≡ relocationNumbers (relocationsOf limits (now (sheet .entry)) mask (length (now (words .entry)))) ⌝ }
+fn region_list(sheet: &[u8], mask: u32, words: &mut [u8], which: u32, lent: &mut [u8]) -> u64
+    ensures { λ r. ⌜ r ≡ numberOf which (relocationNumbers (relocationsOf limits (now (sheet .entry)) mask (length (now (words .entry))))) ⌝ }
     ensures { λ _. ⌜ now (words .exit) ≡ wordsAfter limits (now (sheet .entry)) mask (now (words .entry)) ⌝ }
+    ensures { λ _. ⌜ now (lent .exit) ≡ numbersPut (relocationNumbers (relocationsOf limits (now (sheet .entry)) mask (length (now (words .entry))))) (now (lent .entry)) ⌝ }
 {
-    numbers::relocation_numbers(relocations::relocations(sheet, mask, words))
+    let found = numbers::relocation_numbers(relocations::relocations(sheet, mask, words));
+    numbers::tell(&found, which, lent)
 }
 
 #[no_mangle]
@@ -49,8 +51,8 @@ pub extern "C" fn igvm_relocations(sheet: &[u8], mask: u32, words: &mut [u8], wh
     ensures { λ r. ⌜ r ≡ numberOf which (relocationNumbers (relocationsOf limits (now (sheet .entry)) mask (length (now (words .entry))))) ⌝ }
     ensures { λ _. ⌜ now (words .exit) ≡ wordsAfter limits (now (sheet .entry)) mask (now (words .entry)) ⌝ }
 {
-    let found = region_list(sheet, mask, words);
-    numbers::number_of(&found, which)
+    let mut none: [u8; 0] = [];
+    region_list(sheet, mask, words, which, &mut none)
 }
 
 #[no_mangle]
@@ -64,17 +66,22 @@ pub extern "C" fn igvm_relocations_numbers(
     ensures { λ _. ⌜ now (words .exit) ≡ wordsAfter limits (now (sheet .entry)) mask (now (words .entry)) ⌝ }
     ensures { λ _. ⌜ now (numbers .exit) ≡ numbersPut (relocationNumbers (relocationsOf limits (now (sheet .entry)) mask (length (now (words .entry))))) (now (numbers .entry)) ⌝ }
 {
-    let found = region_list(sheet, mask, words);
-    lent::put_numbers(numbers, &found);
-    found[0]
+    region_list(sheet, mask, words, 0, numbers)
 }
 
 // ---- the base check: 0 number, 1 row, 2 detail, 3 valid (1 or 0)
 
-fn base_check(sheet: &[u8], mask: u32, region: u64, base: u64) -> [u64; 4]
-    ensures { λ r. ⌜ r ≡ checkNumbers (baseCheckOf limits (now (sheet .entry)) mask region base) ⌝ }
+fn base_check(sheet: &[u8], mask: u32, region: u64, base: u64, which: u32, lent: &mut [u8]) -> u64
+    ensures { λ r. ⌜ r ≡ numberOf which (checkNumbers (baseCheckOf limits (now (sheet .entry)) mask region base)) ⌝ }
+    ensures { λ _. ⌜ now (lent .exit) ≡ numbersPut (checkNumbers (baseCheckOf limits (now (sheet .entry)) mask region base)) (now (lent .entry)) ⌝ }
 {
-    numbers::check_numbers(relocations::relocation_base_valid(sheet, mask, region, base))
+    let found = numbers::check_numbers(relocations::relocation_base_valid(
+        sheet,
+        mask,
+        region,
+        base,
+    ));
+    numbers::tell(&found, which, lent)
 }
 
 #[no_mangle]
@@ -87,8 +94,8 @@ pub extern "C" fn igvm_relocation_base_valid(
 ) -> u64
     ensures { λ r. ⌜ r ≡ numberOf which (checkNumbers (baseCheckOf limits (now (sheet .entry)) mask region base)) ⌝ }
 {
-    let found = base_check(sheet, mask, region, base);
-    numbers::number_of(&found, which)
+    let mut none: [u8; 0] = [];
+    base_check(sheet, mask, region, base, which, &mut none)
 }
 
 #[no_mangle]
@@ -102,25 +109,25 @@ pub extern "C" fn igvm_relocation_base_valid_numbers(
     ensures { λ r. ⌜ r ≡ numberOf 0 (checkNumbers (baseCheckOf limits (now (sheet .entry)) mask region base)) ⌝ }
     ensures { λ _. ⌜ now (numbers .exit) ≡ numbersPut (checkNumbers (baseCheckOf limits (now (sheet .entry)) mask region base)) (now (numbers .entry)) ⌝ }
 {
-    let found = base_check(sheet, mask, region, base);
-    lent::put_numbers(numbers, &found);
-    found[0]
+    base_check(sheet, mask, region, base, 0, numbers)
 }
 
 // ---- the address check: 0 number, 1 row, 2 detail, 3 contained (1 or 0)
 
-fn address_check(sheet: &[u8], mask: u32, region: u64, gpa: u64) -> [u64; 4]
-    ensures { λ r. ⌜ r ≡ checkNumbers (containsOf limits (now (sheet .entry)) mask region gpa) ⌝ }
+fn address_check(sheet: &[u8], mask: u32, region: u64, gpa: u64, which: u32, lent: &mut [u8]) -> u64
+    ensures { λ r. ⌜ r ≡ numberOf which (checkNumbers (containsOf limits (now (sheet .entry)) mask region gpa)) ⌝ }
+    ensures { λ _. ⌜ now (lent .exit) ≡ numbersPut (checkNumbers (containsOf limits (now (sheet .entry)) mask region gpa)) (now (lent .entry)) ⌝ }
 {
-    numbers::check_numbers(relocations::contains(sheet, mask, region, gpa))
+    let found = numbers::check_numbers(relocations::contains(sheet, mask, region, gpa));
+    numbers::tell(&found, which, lent)
 }
 
 #[no_mangle]
 pub extern "C" fn igvm_contains(sheet: &[u8], mask: u32, region: u64, gpa: u64, which: u32) -> u64
     ensures { λ r. ⌜ r ≡ numberOf which (checkNumbers (containsOf limits (now (sheet .entry)) mask region gpa)) ⌝ }
 {
-    let found = address_check(sheet, mask, region, gpa);
-    numbers::number_of(&found, which)
+    let mut none: [u8; 0] = [];
+    address_check(sheet, mask, region, gpa, which, &mut none)
 }
 
 #[no_mangle]
@@ -134,9 +141,7 @@ pub extern "C" fn igvm_contains_numbers(
     ensures { λ r. ⌜ r ≡ numberOf 0 (checkNumbers (containsOf limits (now (sheet .entry)) mask region gpa)) ⌝ }
     ensures { λ _. ⌜ now (numbers .exit) ≡ numbersPut (checkNumbers (containsOf limits (now (sheet .entry)) mask region gpa)) (now (numbers .entry)) ⌝ }
 {
-    let found = address_check(sheet, mask, region, gpa);
-    lent::put_numbers(numbers, &found);
-    found[0]
+    address_check(sheet, mask, region, gpa, 0, numbers)
 }
 
 // ---- the same checks on a region's eight words, as the region list puts them, without the sheet: 1 or 0

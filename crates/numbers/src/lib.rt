@@ -1,13 +1,14 @@
 // The numbers of an answer, in the order in which a call across the C linkage names them.
 ghost use mathlib.Core.Path.{_≡_};
 ghost use mathlib.Core.Bool.{cond};
+ghost use Rattle.lent.specs.Lent.{numbersPut};
 ghost use Rattle.answers.specs.Numbers.{numberOf, verdictNumbers, relocationNumbers, checkNumbers};
 use answers::Checked;
 use answers::Relocations;
 use answers::Verdict;
 
 // Number `which`; 0 where there is no such number.
-pub fn number_of(numbers: &[u64], which: u32) -> u64
+fn number_of(numbers: &[u64], which: u32) -> u64
     ensures { λ r. ⌜ r ≡ numberOf which (now (numbers .entry)) ⌝ }
 {
     let i = which as usize;
@@ -15,6 +16,15 @@ pub fn number_of(numbers: &[u64], which: u32) -> u64
         return numbers[i];
     }
     0
+}
+
+// Number `which`; and all of them as words in front of the lent bytes, where they have room.
+pub fn tell(numbers: &[u64], which: u32, lent: &mut [u8]) -> u64
+    ensures { λ r. ⌜ r ≡ numberOf which (now (numbers .entry)) ⌝ }
+    ensures { λ _. ⌜ now (lent .exit) ≡ numbersPut (now (numbers .entry)) (now (lent .entry)) ⌝ }
+{
+    lent::put_numbers(lent, numbers);
+    number_of(numbers, which)
 }
 
 fn number_if(test: bool) -> u64

@@ -3,7 +3,9 @@ use Rattle.igvm.proofs.region_list.Statement.{statement}
 use Rattle.igvm.proofs.region_list.Tie as tie
 
 returns : tie.Need-returns
-returns c = let r = c .before .before .before .relocations in (rw (← r .ensures .0) (c .relocation-numbers .ensures), r .ensures .1)
+returns c =
+    let found = c .before .before .before .before .before .before .before .before .relocations .ensures in let numbers = c .before .before .before .before .before .relocation-numbers .ensures in let told = c .before .before .tell .ensures in
+    (rw (← found .0, ← numbers) (told .0), (found .1, rw (← found .0, ← numbers) (told .1)))
 
 pub region-list-spec : {M : Type 1} → statement M
-region-list-spec = tie.close (tie.spec (λ c κs. search needs) (λ c κs. search needs) (λ c. search needs) returns)
+region-list-spec = tie.close (tie.spec (λ c κs. search needs) (λ c κs. search needs) (λ c. search needs) (λ c κs. search needs) (λ c. search needs) (λ c. search needs) returns)

@@ -2,5 +2,8 @@ use Rattle.rows.proofs.Kit.{needs}
 use Rattle.igvm.proofs.verdict.Statement.{statement}
 use Rattle.igvm.proofs.verdict.Tie as tie
 
+returns : tie.Need-returns
+returns c = rw (← c .before .before .before .before .before .before .new .ensures, ← c .before .before .before .before .before .verdict-numbers .ensures) (c .before .before .tell .ensures)
+
 pub verdict-spec : {M : Type 1} → statement M
-verdict-spec = tie.close (tie.spec (λ c κs. search needs) (λ c κs. search needs) (λ c. rw (← c .before .new .ensures) (c .verdict-numbers .ensures)))
+verdict-spec = tie.close (tie.spec (λ c κs. search needs) (λ c κs. search needs) (λ c. search needs) (λ c κs. search needs) (λ c. search needs) returns)
