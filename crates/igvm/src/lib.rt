@@ -11,12 +11,12 @@ ghost use Rattle.answers.specs.Numbers.{numberOf, verdictNumbers, relocationNum
 
 // ---- the verdict: 0 number, 1 row, 2 detail, 3 platform rows, 4 initialization rows, 5 directive rows
 
+// The whole slice is taken again: so both of its numbers are read at once, and are passed in registers.
 fn verdict(sheet: &[u8], which: u32, lent: &mut [u8]) -> u64
     ensures { λ r. ⌜ r ≡ numberOf which (verdictNumbers (verdictOf limits (now (sheet .entry)))) ⌝ }
     ensures { λ _. ⌜ now (lent .exit) ≡ numbersPut (verdictNumbers (verdictOf limits (now (sheet .entry)))) (now (lent .entry)) ⌝ }
 {
-    let found = numbers::verdict_numbers(igvm_file::IgvmFile::new(sheet).verdict);
-    numbers::tell(&found, which, lent)
+    numbers::tell_verdict(igvm_file::IgvmFile::new(&sheet[..]).verdict, which, lent)
 }
 
 #[no_mangle]

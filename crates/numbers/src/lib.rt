@@ -36,7 +36,23 @@ fn number_if(test: bool) -> u64
     0
 }
 
-pub fn verdict_numbers(v: Verdict) -> [u64; 6]
+// By a `match`: an array would be filled and then read, where no number is put.
+fn verdict_number(v: Verdict, which: u32) -> u64
+    ensures { λ r. ⌜ r ≡ numberOf which (verdictNumbers v) ⌝ }
+{
+    let refusal = v.refusal;
+    match which {
+        0 => refusal.number,
+        1 => refusal.row,
+        2 => refusal.detail,
+        3 => v.platforms,
+        4 => v.initializations,
+        5 => v.directives,
+        _ => 0,
+    }
+}
+
+fn verdict_numbers(v: Verdict) -> [u64; 6]
     ensures { λ r. ⌜ r ≡ verdictNumbers v ⌝ }
 {
     let refusal = v.refusal;
@@ -48,6 +64,16 @@ pub fn verdict_numbers(v: Verdict) -> [u64; 6]
         v.initializations,
         v.directives,
     ]
+}
+
+// `tell` of a verdict's numbers.
+pub fn tell_verdict(v: Verdict, which: u32, lent: &mut [u8]) -> u64
+    ensures { λ r. ⌜ r ≡ numberOf which (verdictNumbers v) ⌝ }
+    ensures { λ _. ⌜ now (lent .exit) ≡ numbersPut (verdictNumbers v) (now (lent .entry)) ⌝ }
+{
+    let numbers = verdict_numbers(v);
+    lent::put_numbers(lent, &numbers);
+    verdict_number(v, which)
 }
 
 pub fn relocation_numbers(a: Relocations) -> [u64; 10]
