@@ -8,9 +8,9 @@
  * number is a word: eight bytes, the least significant first. Where fewer words are lent than the answer has numbers, none is put. A whole answer then costs one
  * reading of the sheet.
  *
- * What a caller owes: each pointer is that of as many bytes as the length beside it says (an empty slice may be null), which no one else changes during the call;
- * lent bytes overlap neither the sheet nor each other. Nothing is asked of the contents, and no number is out of range. Bytes that are lent behind an answer keep
- * their contents. No byte of a sheet is read once a lent byte is written.
+ * What a caller owes: each pointer is that of as many bytes as the length beside it says (an empty slice may be null), which no one else changes during the call,
+ * nor between calls by `which` whose numbers are to be of one answer; lent bytes overlap neither the sheet nor each other. Nothing is asked of the contents, and
+ * no number is out of range. Bytes that are lent behind an answer keep their contents. No byte of a sheet is read once a lent byte is written.
  *
  * A call keeps nothing: it allocates nothing, has no state, and ends; calls may run on several threads at once. It takes less than IGVM_STACK_BYTES of stack. */
 #ifndef IGVM_H

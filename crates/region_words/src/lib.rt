@@ -108,7 +108,7 @@ pub struct PutRegions {
     pub count: usize,
 }
 
-// The words of the mask's regions, in header order, in front of bytes of its own; counts them and finds its page-table region on the way.
+// The words of the mask's regions, in header order, in front of `words`, which is not the caller's; counts them and finds its page-table region on the way.
 fn collect(s: &[u8], head: SheetHead, given: u32, words: &mut [u8]) -> PutRegions
     requires { ⌜ Readable limits (now s) × (head ≡ headOf (now s)) × (64 * regionCount (sheetInitializations (now s)) given ≤ length (now words)) ⌝ }
     ensures { λ r. ⌜ (r .table ≡ foundTable (pageTableAt (sheetInitializations (now (s .entry))) given)) × (r .count ≡ regionCount (sheetInitializations (now (s .entry))) given) ⌝ }
