@@ -1,5 +1,5 @@
 -- Rows in order that name an area, and the rows with a table of areas.
-use Rattle.rows.{proofs.Kit.{ℕ, _-_, _≤_, _<_, arith, _≡_, refl, sym, _∙_, false, or-false, List, [], _∷_, length, getD, take, drop, replicate}, specs.Below.anyBelow, specs.Rows.{Rows, before}}
+use Rattle.rows.{proofs.Kit.{ℕ, _+_, _*_, _-_, _≤_, _<_, arith, _≡_, refl, sym, _∙_, false, or-false, List, [], _∷_, length, getD, take, drop, replicate}, specs.Below.anyBelow, specs.Rows.{Rows, before}}
 use Rattle.masks.specs.Masks.{shares}
 use Rattle.sheet.{specs.declared.Cursor.Cursor, specs.Head.{headOf, rowCount, firstDirective}, specs.Table.{rowKind, bodyOf}, specs.Walk.ReadTo}
 use Rattle.sheet_reader.{specs.declared.SheetRow.SheetRow, specs.Reading.{readAt, cursorAfter}, proofs.ReaderLaws.{list-found, body-found}}
@@ -15,6 +15,10 @@ use Rattle.directive_accept.proofs.AcceptedLaws.{read-row, accepted-mor
 -- a header that is no context leaves the masks as they are
 pub contexts-stay : (contexts : List ℕ) (h : IgvmDirectiveHeader) → ((level bits : ℕ) → isContext level bits h ≡ false) → ContextsNext contexts h contexts
 contexts-stay contexts h other level bits = rw (other level bits) (sym (or-false (shares (getD contexts level 0) bits)))
+
+-- the arrays of a tree are as long as those before
+abbrev pub SameSizes : List ℕ → List ℕ → List ℕ → List ℕ → List ℕ → List ℕ → Type 0
+SameSizes links₀ areas₀ states₀ links areas states = (length links ≡ length links₀) × (length areas ≡ length areas₀) × (length states ≡ length states₀)
 
 -- ---- rows that name an area
 
@@ -57,9 +61,11 @@ named-turn s c d e next few links areas states a p =
 
 -- ---- where the pass begins
 
-pub named-first : (s : List ℕ) (c : Cursor) (contexts : List ℕ) → PlainAccepted s c contexts
-    → NamedAccepted s c contexts (replicate 1024 0) (replicate 3074 0) (replicate 1025 0) (replicate 1025 0)
-named-first s c contexts a = record { rows = a .rows; known = holds-same holds-none (λ x. sym (a .areas x)); masks = a .masks }
+-- with an empty table of n nodes
+pub named-first : (s : List ℕ) (c : Cursor) (contexts : List ℕ) (n : ℕ) → 0 < n → n ≤ 65536 → PlainAccepted s c contexts
+    → NamedAccepted s c contexts (replicate 1024 0) (replicate (1024 + 2 * n) 0) (replicate n 0) (replicate n 0)
+named-first s c contexts n some small a =
+    record { rows = a .rows; known = holds-same (holds-none n some small) (λ x. sym (a .areas x)); masks = a .masks }
 
 module _ (s : List ℕ) (c : Cursor) (e : c .row ≡ firstDirective s) where
   none-before : c .row - firstDirective s ≡ 0
@@ -75,6 +81,9 @@ module _ (s : List ℕ) (c : Cursor) (e : c .row ≡ firstDirective s) where
   state-first : (area : ℕ) → stateBefore s (c .row) area ≡ 0
   unfolding anyBelow stateOf
   state-first area = rw none-before
+
+  pub none-first : (contexts : List ℕ) → ReadTo s c → contexts ≡ (0 ∷ 0 ∷ 0 ∷ []) → PlainAccepted s c contexts
+  none-first contexts r z = let (rows, masks) = rows-first contexts r z in record { rows = rows; areas = state-first; masks = masks }
 
   pub plain-first : (d : Cursor) (contexts : List ℕ) → PlainPassed s c d contexts → PlainAccepted s d contexts
   plain-first d contexts p = record { rows = p .rows; areas = λ area. p .areas area ∙ state-first area; masks = p .masks }

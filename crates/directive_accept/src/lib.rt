@@ -73,9 +73,9 @@ fn past_area_rows<'a>(
     tables: &'a [bool],
     n: usize,
     few: &mut [u8; area_table::FEW],
-    links: &mut [u16; area_table::LINKS],
-    areas: &mut [u32; area_table::NODES],
-    states: &mut [u8; area_table::NODES],
+    links: &mut [u16],
+    areas: &mut [u32],
+    states: &mut [u8],
 ) -> Cursor
     requires { ⌜ (bodiesAt (headOf (now s)) ≤ length (now s)) × ReadTo (now s) from × (firstDirective (now s) ≤ from .row) × (end ≡ rowCount (headOf (now s))) ⌝ }
     requires { ⌜ ((n ≤ length (now masks)) × (n ≤ length (now gpas)) × (n ≤ length (now sizes)) × (n ≤ length (now tables))) × HoldsTables (now masks) (now gpas) (now sizes) (now tables) n (sheetHeaders (now s) .initializations) ⌝ }
@@ -118,9 +118,9 @@ fn past_named<'a>(
     n: usize,
     contexts: &mut [u32; 3],
     few: &mut [u8; area_table::FEW],
-    links: &mut [u16; area_table::LINKS],
-    areas: &mut [u32; area_table::NODES],
-    states: &mut [u8; area_table::NODES],
+    links: &mut [u16],
+    areas: &mut [u32],
+    states: &mut [u8],
 ) -> Cursor
     requires { ⌜ (bodiesAt (headOf (now s)) ≤ length (now s)) × (end ≡ rowCount (headOf (now s))) × (x64 ≡ isX64 (sheetHeaders (now s) .arch)) ⌝ }
     requires { ⌜ ((n ≤ length (now masks)) × (n ≤ length (now gpas)) × (n ≤ length (now sizes)) × (n ≤ length (now tables))) × HoldsTables (now masks) (now gpas) (now sizes) (now tables) n (sheetHeaders (now s) .initializations) ⌝ }
@@ -152,8 +152,8 @@ fn past_named<'a>(
     c
 }
 
-// The rows from the first that names an area on. The table is made here, so that images without areas do not clear it.
-fn past_areas<'a>(
+// The rows from the first that names an area on, where they are few: a tiny table takes less time to clear.
+fn past_few_areas<'a>(
     s: &'a [u8],
     from: Cursor,
     end: usize,
@@ -171,18 +171,18 @@ fn past_areas<'a>(
     ensures { λ r. ⌜ DirectivesAccepted (now (s .entry)) r (now (contexts .exit)) × (length (now (contexts .exit)) ≡ 3) ⌝ }
 {
     let mut few: [u8; area_table::FEW] = [0; area_table::FEW];
-    let mut links: [u16; area_table::LINKS] = [0; area_table::LINKS];
-    let mut areas: [u32; area_table::NODES] = [0; area_table::NODES];
-    let mut states: [u8; area_table::NODES] = [0; area_table::NODES];
+    let mut links: [u16; area_table::TINY_LINKS] = [0; area_table::TINY_LINKS];
+    let mut areas: [u32; area_table::TINY_NODES] = [0; area_table::TINY_NODES];
+    let mut states: [u8; area_table::TINY_NODES] = [0; area_table::TINY_NODES];
     past_named(
-        s,
+        &s[..],
         from,
         end,
         x64,
-        masks,
-        gpas,
-        sizes,
-        tables,
+        &masks[..],
+        &gpas[..],
+        &sizes[..],
+        &tables[..],
         n,
         contexts,
         &mut few,
@@ -192,7 +192,51 @@ fn past_areas<'a>(
     )
 }
 
-// Past the directive rows in order, from the first on. The first n regions of the arrays are the file's; the masks become those of the contexts passed.
+// The rows from the first that names an area on, with a table as small as their number allows. It is made here, so that images without areas do not clear it.
+fn past_areas<'a>(
+    s: &'a [u8],
+    from: Cursor,
+    end: usize,
+    x64: bool,
+    masks: &'a [u32],
+    gpas: &'a [u64],
+    sizes: &'a [u64],
+    tables: &'a [bool],
+    n: usize,
+    contexts: &mut [u32; 3],
+) -> Cursor
+    requires { ⌜ (bodiesAt (headOf (now s)) ≤ length (now s)) × (end ≡ rowCount (headOf (now s))) × (x64 ≡ isX64 (sheetHeaders (now s) .arch)) ⌝ }
+    requires { ⌜ ((n ≤ length (now masks)) × (n ≤ length (now gpas)) × (n ≤ length (now sizes)) × (n ≤ length (now tables))) × HoldsTables (now masks) (now gpas) (now sizes) (now tables) n (sheetHeaders (now s) .initializations) ⌝ }
+    requires { ⌜ PlainAccepted (now s) from (now contexts) ⌝ }
+    ensures { λ r. ⌜ DirectivesAccepted (now (s .entry)) r (now (contexts .exit)) × (length (now (contexts .exit)) ≡ 3) ⌝ }
+{
+    if end - from.row <= area_table::TINY {
+        return past_few_areas(s, from, end, x64, masks, gpas, sizes, tables, n, contexts);
+    }
+    let mut few: [u8; area_table::FEW] = [0; area_table::FEW];
+    let mut links: [u16; area_table::SMALL_LINKS] = [0; area_table::SMALL_LINKS];
+    let mut areas: [u32; area_table::SMALL_NODES] = [0; area_table::SMALL_NODES];
+    let mut states: [u8; area_table::SMALL_NODES] = [0; area_table::SMALL_NODES];
+    past_named(
+        &s[..],
+        from,
+        end,
+        x64,
+        &masks[..],
+        &gpas[..],
+        &sizes[..],
+        &tables[..],
+        n,
+        contexts,
+        &mut few,
+        &mut links,
+        &mut areas,
+        &mut states,
+    )
+}
+
+// Past the directive rows in order, from the first on, as far as a small table can tell. The first n regions of the arrays are the file's; the masks become
+// those of the contexts passed.
 pub fn accept<'a>(
     s: &'a [u8],
     from: Cursor,
@@ -215,4 +259,44 @@ pub fn accept<'a>(
         return past_areas(s, c, end, x64, masks, gpas, sizes, tables, n, contexts);
     }
     c
+}
+
+// The same with a large table, which has room for an area in each row.
+pub fn accept_many<'a>(
+    s: &'a [u8],
+    from: Cursor,
+    end: usize,
+    x64: bool,
+    masks: &'a [u32],
+    gpas: &'a [u64],
+    sizes: &'a [u64],
+    tables: &'a [bool],
+    n: usize,
+    contexts: &mut [u32; 3],
+) -> Cursor
+    requires { ⌜ (bodiesAt (headOf (now s)) ≤ length (now s)) × (end ≡ rowCount (headOf (now s))) × (x64 ≡ isX64 (sheetHeaders (now s) .arch)) ⌝ }
+    requires { ⌜ ((n ≤ length (now masks)) × (n ≤ length (now gpas)) × (n ≤ length (now sizes)) × (n ≤ length (now tables))) × HoldsTables (now masks) (now gpas) (now sizes) (now tables) n (sheetHeaders (now s) .initializations) ⌝ }
+    requires { ⌜ ReadTo (now s) from × (from .row ≡ firstDirective (now s)) × (now contexts ≡ (0 ∷ 0 ∷ 0 ∷ [])) ⌝ }
+    ensures { λ r. ⌜ DirectivesAccepted (now (s .entry)) r (now (contexts .exit)) × (length (now (contexts .exit)) ≡ 3) ⌝ }
+{
+    let mut few: [u8; area_table::FEW] = [0; area_table::FEW];
+    let mut links: [u16; area_table::LARGE_LINKS] = [0; area_table::LARGE_LINKS];
+    let mut areas: [u32; area_table::LARGE_NODES] = [0; area_table::LARGE_NODES];
+    let mut states: [u8; area_table::LARGE_NODES] = [0; area_table::LARGE_NODES];
+    past_named(
+        s,
+        from,
+        end,
+        x64,
+        masks,
+        gpas,
+        sizes,
+        tables,
+        n,
+        contexts,
+        &mut few,
+        &mut links,
+        &mut areas,
+        &mut states,
+    )
 }

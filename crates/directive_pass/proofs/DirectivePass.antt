@@ -72,7 +72,7 @@ module _ {s : List ℕ} {held : RelocRegions} {k n : ℕ} {a : Arch} {c : Cursor
   pub directive-known : i < n → AtList s directiveList c
   directive-known l = at-directive s (r .readable) c i (rw (r .first-row) at (r .reached .at)) (rw (← r .rows) l)
 
-  pub directive-small : (k ≤ 80) × (n ≤ 1024)
+  pub directive-small : (k ≤ 80) × (n ≤ 8192)
   directive-small = let first = r .first-row in let rows = r .rows in let bounds = readable-bounds s (r .readable) in omega arith
 
   pub directive-room : held .count ≤ 64

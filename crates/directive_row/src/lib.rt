@@ -12,7 +12,7 @@ ghost use Rattle.directive_header.specs.Directives.{directiveOf};
 ghost use Rattle.directive_header.specs.Fields.{isParameter};
 ghost use Rattle.rules.specs.Directives.{insideTable};
 ghost use Rattle.directive_header.specs.declared.IgvmDirectiveHeader.{IgvmDirectiveHeader};
-ghost use Rattle.area_table.specs.AreaTable.{HoldsAreas};
+ghost use Rattle.area_table.specs.AreaTable.{Tree, HoldsAreas};
 ghost use Rattle.clashes.specs.Clashes.{HoldsTables};
 ghost use Rattle.directive_row.specs.Row.{VbsContext, PlainRow, AreaRow, NamedRow, stateOf};
 
@@ -71,10 +71,11 @@ pub fn plain_row(kind: u32, b: &[u8], x64: bool, contexts: &mut [u32; 3]) -> boo
 fn parameter_area_row(
     b: &[u8],
     few: &mut [u8; area_table::FEW],
-    links: &mut [u16; area_table::LINKS],
-    areas: &mut [u32; area_table::NODES],
-    states: &mut [u8; area_table::NODES],
+    links: &mut [u16],
+    areas: &mut [u32],
+    states: &mut [u8],
 ) -> bool
+    requires { ⌜ Tree (now links) (now areas) (now states) ⌝ }
     ensures { λ r. ⌜ ((arch : Arch) (earlier : Rows IgvmDirectiveHeader) → HoldsAreas (now (few .entry)) (now (links .entry)) (now (areas .entry)) (now (states .entry)) (stateOf earlier) → r ≡ true → AreaRow arch earlier 33 (now (b .entry)) (now (few .exit)) (now (links .exit)) (now (areas .exit)) (now (states .exit))) ⌝ }
     ensures { λ r. ⌜ ((known : ℕ → ℕ) → r ≡ false → HoldsAreas (now (few .entry)) (now (links .entry)) (now (areas .entry)) (now (states .entry)) known → HoldsAreas (now (few .exit)) (now (links .exit)) (now (areas .exit)) (now (states .exit)) known) ⌝ }
 {
@@ -97,10 +98,11 @@ fn parameter_area_row(
 fn parameter_row(
     b: &[u8],
     few: &[u8; area_table::FEW],
-    links: &[u16; area_table::LINKS],
-    areas: &[u32; area_table::NODES],
-    states: &[u8; area_table::NODES],
+    links: &[u16],
+    areas: &[u32],
+    states: &[u8],
 ) -> bool
+    requires { ⌜ Tree (now links) (now areas) (now states) ⌝ }
     ensures { λ r. ⌜ ((arch : Arch) (earlier : Rows IgvmDirectiveHeader) (kind : ℕ) → isParameter kind ≡ true → HoldsAreas (now (few .entry)) (now (links .entry)) (now (areas .entry)) (now (states .entry)) (stateOf earlier) → r ≡ true → AreaRow arch earlier kind (now (b .entry)) (now (few .entry)) (now (links .entry)) (now (areas .entry)) (now (states .entry))) ⌝ }
 {
     if b.len() != 8 {
@@ -113,10 +115,11 @@ fn parameter_row(
 fn insert_row(
     b: &[u8],
     few: &mut [u8; area_table::FEW],
-    links: &mut [u16; area_table::LINKS],
-    areas: &mut [u32; area_table::NODES],
-    states: &mut [u8; area_table::NODES],
+    links: &mut [u16],
+    areas: &mut [u32],
+    states: &mut [u8],
 ) -> bool
+    requires { ⌜ Tree (now links) (now areas) (now states) ⌝ }
     ensures { λ r. ⌜ ((arch : Arch) (earlier : Rows IgvmDirectiveHeader) → HoldsAreas (now (few .entry)) (now (links .entry)) (now (areas .entry)) (now (states .entry)) (stateOf earlier) → r ≡ true → AreaRow arch earlier 50 (now (b .entry)) (now (few .exit)) (now (links .exit)) (now (areas .exit)) (now (states .exit))) ⌝ }
     ensures { λ r. ⌜ ((known : ℕ → ℕ) → r ≡ false → HoldsAreas (now (few .entry)) (now (links .entry)) (now (areas .entry)) (now (states .entry)) known → HoldsAreas (now (few .exit)) (now (links .exit)) (now (areas .exit)) (now (states .exit)) known) ⌝ }
 {
@@ -172,10 +175,11 @@ fn parameter_insert_row<'a>(
     tables: &'a [bool],
     n: usize,
     few: &mut [u8; area_table::FEW],
-    links: &mut [u16; area_table::LINKS],
-    areas: &mut [u32; area_table::NODES],
-    states: &mut [u8; area_table::NODES],
+    links: &mut [u16],
+    areas: &mut [u32],
+    states: &mut [u8],
 ) -> bool
+    requires { ⌜ Tree (now links) (now areas) (now states) ⌝ }
     requires { ⌜ (n ≤ length (now masks)) × (n ≤ length (now gpas)) × (n ≤ length (now sizes)) × (n ≤ length (now tables)) ⌝ }
     ensures { λ r. ⌜ ((arch : Arch) (is : Rows IgvmInitializationHeader) (earlier : Rows IgvmDirectiveHeader) → HoldsTables (now (masks .entry)) (now (gpas .entry)) (now (sizes .entry)) (now (tables .entry)) n is → HoldsAreas (now (few .entry)) (now (links .entry)) (now (areas .entry)) (now (states .entry)) (stateOf earlier) → r ≡ true → AreaRow arch earlier 50 (now (b .entry)) (now (few .exit)) (now (links .exit)) (now (areas .exit)) (now (states .exit)) × (insideTable is (directiveOf 50 (now (b .entry))) ≡ false)) ⌝ }
     ensures { λ r. ⌜ ((known : ℕ → ℕ) → r ≡ false → HoldsAreas (now (few .entry)) (now (links .entry)) (now (areas .entry)) (now (states .entry)) known → HoldsAreas (now (few .exit)) (now (links .exit)) (now (areas .exit)) (now (states .exit)) known) ⌝ }
@@ -196,10 +200,11 @@ pub fn area_row<'a>(
     tables: &'a [bool],
     n: usize,
     few: &mut [u8; area_table::FEW],
-    links: &mut [u16; area_table::LINKS],
-    areas: &mut [u32; area_table::NODES],
-    states: &mut [u8; area_table::NODES],
+    links: &mut [u16],
+    areas: &mut [u32],
+    states: &mut [u8],
 ) -> bool
+    requires { ⌜ Tree (now links) (now areas) (now states) ⌝ }
     requires { ⌜ (n ≤ length (now masks)) × (n ≤ length (now gpas)) × (n ≤ length (now sizes)) × (n ≤ length (now tables)) ⌝ }
     ensures { λ r. ⌜ ((arch : Arch) (is : Rows IgvmInitializationHeader) (earlier : Rows IgvmDirectiveHeader) → HoldsTables (now (masks .entry)) (now (gpas .entry)) (now (sizes .entry)) (now (tables .entry)) n is → HoldsAreas (now (few .entry)) (now (links .entry)) (now (areas .entry)) (now (states .entry)) (stateOf earlier) → r ≡ true → NamedRow arch is earlier kind (now (b .entry)) (now (few .exit)) (now (links .exit)) (now (areas .exit)) (now (states .exit))) ⌝ }
     ensures { λ r. ⌜ ((known : ℕ → ℕ) → r ≡ false → HoldsAreas (now (few .entry)) (now (links .entry)) (now (areas .entry)) (now (states .entry)) known → HoldsAreas (now (few .exit)) (now (links .exit)) (now (areas .exit)) (now (states .exit)) known) ⌝ }

@@ -6,6 +6,7 @@ ghost use lib.ListN.{length};
 ghost use Rattle.rows.specs.Below.{anyBelow};
 ghost use Rattle.rows.specs.Rows.{before};
 ghost use Rattle.igvm_defs.specs.Refusals.{noRefusal, isFault, isRefusal};
+ghost use Rattle.igvm_defs.specs.Revision.{isX64};
 ghost use Rattle.sheet.specs.Head.{limits, headOf, firstDirective, rowCount, startFault};
 ghost use Rattle.sheet.specs.Read.{Readable, sheetRefusal};
 ghost use Rattle.sheet.specs.Walk.{cursorAt, ReadTo};
@@ -13,13 +14,14 @@ ghost use Rattle.sheet_headers.specs.Headers.{sheetHeaders};
 ghost use Rattle.rules.specs.Verdict.{directiveFaults};
 ghost use Rattle.directive_check.specs.Record.{HoldsContexts};
 ghost use Rattle.directive_accept.specs.Accepted.{DirectivesAccepted};
-ghost use Rattle.initialization_check.specs.Record.{regionsIn};
+ghost use Rattle.initialization_check.specs.Record.{regionsIn, HoldsRegions};
 ghost use Rattle.answers.specs.Verdict.{verdictOf, verdictRefusal};
 ghost use Rattle.keep.specs.Kept.{Kept};
 ghost use Rattle.validation.specs.Validated.{HeadersPassed, VerdictPassed};
 use answers::Verdict;
 use directive_pass::DirectivesPass;
 use igvm_defs::Refusal;
+use initialization_check::RelocRegions;
 use sheet::Cursor;
 use sheet::SheetHead;
 
@@ -38,20 +40,76 @@ struct Start {
     contexts: [u32; 3],
 }
 
-// At the cursor, with the masks, where it has reached the directive rows; else at the first of them.
-fn start_of(s: &[u8], head: SheetHead, from: Cursor, contexts: [u32; 3]) -> Start
-    requires { ⌜ Readable limits (now s) × (head ≡ headOf (now s)) × ReadTo (now s) from × (firstDirective (now s) ≤ from .row → DirectivesAccepted (now s) from contexts) ⌝ }
+// Behind the directive rows in order, from the first on, however many areas they name.
+fn past_in_order(s: &[u8], first: usize, end: usize, x64: bool, regions: RelocRegions) -> Start
+    requires { ⌜ Readable limits (now s) × (first ≡ firstDirective (now s)) × (end ≡ rowCount (headOf (now s))) × (x64 ≡ isX64 (sheetHeaders (now s) .arch)) ⌝ }
+    requires { ⌜ HoldsRegions regions (sheetHeaders (now s) .initializations) ⌝ }
+    ensures { λ r. ⌜ (r .at ≡ cursorAt (now (s .entry)) (r .at .row)) × (firstDirective (now (s .entry)) ≤ r .at .row) × (r .at .row ≤ rowCount (headOf (now (s .entry)))) ⌝ }
+    ensures { λ r. ⌜ (anyBelow (r .at .row - firstDirective (now (s .entry))) (λ i. isFault (directiveFaults (sheetHeaders (now (s .entry))) i)) ≡ false) × HoldsContexts (r .contexts) (before (r .at .row - firstDirective (now (s .entry))) (sheetHeaders (now (s .entry)) .directives)) ⌝ }
+{
+    let n = regions.count;
+    let mut contexts: [u32; 3] = [0; 3];
+    let at = directive_accept::accept_many(
+        s,
+        sheet_reader::cursor_at(s, first),
+        end,
+        x64,
+        &regions.mask,
+        &regions.gpa,
+        &regions.size,
+        &regions.page_table,
+        n,
+        &mut contexts,
+    );
+    Start { at, contexts }
+}
+
+// Up to so many directive rows, reading the rows before each again takes less time than a table of areas does.
+const FEW_ROWS: u16 = 64;
+
+// Whether the table of areas may have been too small for the directive rows before the cursor: it stands at an area, and there are more rows than nodes.
+fn may_be_full(s: &[u8], head: SheetHead, from: Cursor) -> bool
+    requires { ⌜ Readable limits (now s) × (head ≡ headOf (now s)) ⌝ }
+{
+    if (head.directives as usize) <= area_table::SMALL {
+        return false;
+    }
+    let k = from.row;
+    if head.rows() <= k {
+        return false;
+    }
+    sheet::kind_at(s, k) == 33
+}
+
+// At the cursor, with the masks, where it has reached the directive rows and the table of areas was large enough; else at the first of them, or behind
+// those that are in order.
+fn start_of(
+    s: &[u8],
+    head: SheetHead,
+    regions: RelocRegions,
+    from: Cursor,
+    contexts: [u32; 3],
+) -> Start
+    requires { ⌜ Readable limits (now s) × (head ≡ headOf (now s)) × HoldsRegions regions (sheetHeaders (now s) .initializations) ⌝ }
+    requires { ⌜ ReadTo (now s) from × (firstDirective (now s) ≤ from .row → DirectivesAccepted (now s) from contexts) ⌝ }
     ensures { λ r. ⌜ (r .at ≡ cursorAt (now (s .entry)) (r .at .row)) × (firstDirective (now (s .entry)) ≤ r .at .row) × (r .at .row ≤ rowCount (headOf (now (s .entry)))) ⌝ }
     ensures { λ r. ⌜ (anyBelow (r .at .row - firstDirective (now (s .entry))) (λ i. isFault (directiveFaults (sheetHeaders (now (s .entry))) i)) ≡ false) × HoldsContexts (r .contexts) (before (r .at .row - firstDirective (now (s .entry))) (sheetHeaders (now (s .entry)) .directives)) ⌝ }
 {
     let first = (head.platforms as usize) + (head.initializations as usize);
-    if from.row < first {
-        return Start {
-            at: sheet_reader::cursor_at(s, first),
-            contexts: [0; 3],
-        };
+    let x64 = head.revision().arch().is_x64();
+    if first <= from.row {
+        if may_be_full(s, head, from) {
+            return past_in_order(s, first, head.rows(), x64, regions);
+        }
+        return Start { at: from, contexts };
     }
-    Start { at: from, contexts }
+    if FEW_ROWS < head.directives {
+        return past_in_order(s, first, head.rows(), x64, regions);
+    }
+    Start {
+        at: sheet_reader::cursor_at(s, first),
+        contexts: [0; 3],
+    }
 }
 
 // 8 to 34 of a sheet that none of 1 to 7 refuses, and the contexts' masks where there is none. No directive row before the cursor has a fault, and the masks
@@ -70,9 +128,10 @@ fn validate_headers(s: &[u8], head: SheetHead, from: Cursor, contexts: [u32; 3])
     if initializations.is_refusal() {
         return no_contexts(initializations);
     }
-    let start = start_of(s, head, from, contexts);
+    let regions = second.regions;
+    let start = start_of(s, head, regions, from, contexts);
     let masks = start.contexts;
-    directive_pass::validate_directive_headers(s, head, second.regions, start.at, masks)
+    directive_pass::validate_directive_headers(s, head, regions, start.at, masks)
 }
 
 // 4 to 34, where no row before the cursor has a fault of reading, and no directive row before it any.

@@ -55,7 +55,7 @@ bad-area-requires c κs =
     (r .readable, c .before .before .before .before .before .before .before .before .before .pre .0 .1, rw (← r .rows) (c .loop-test .taken), rw (r .first-row) at (r .reached .at))
 
 -- rows are few
-few : (c : tie.In-loop Inv-loop μ-loop) → c .before .before .before .before .before .before .before .before .before .args .head .platforms + c .before .before .before .before .before .before .before .before .before .args .head .initializations + c .before .loop .i < 1104
+few : (c : tie.In-loop Inv-loop μ-loop) → c .before .before .before .before .before .before .before .before .before .args .head .platforms + c .before .before .before .before .before .before .before .before .before .args .head .initializations + c .before .loop .i < 8272
 few c = let b = directive-small (c .before .loop .inv) in let l = c .loop-test .taken in omega arith
 
 add-in-row : tie.Need-add-in-row Inv-loop μ-loop

@@ -6,8 +6,9 @@ use Rattle.directive_row.proofs.insert_row.Tie as tie
 
 returns-3 : tie.Need-returns-3
 returns-3 c =
-    let (state, held) = c .change .ensures in
-    let p = c .before .before .before .before .before in
+    let d = c .before .before .before .before .before .before in
+    let (state, held) = d .change .ensures in
+    let p = d .before .before .before .before .before in
     let u = p .before .before .before .u32-at .ensures in
     let page = sym (ap onPage (p .before .before .u64-at .ensures)) ∙ sym (p .before .on-page .ensures) ∙ not-false _ (p .if2 .left) in (
       λ arch earlier h e.
@@ -18,4 +19,4 @@ returns-3 c =
 pub insert-row-spec : {M : Type 1} → statement M
 insert-row-spec =
     tie.close (tie.spec (λ c. (λ arch earlier h e. absurd (false≢true e), λ known e h. h)) (λ c κs. search needs) (λ c κs. search needs)
-    (λ c κs. search needs) (λ c. (λ arch earlier h e. absurd (false≢true e), λ known e h. h)) (λ c κs. search needs) returns-3)
+    (λ c κs. search needs) (λ c. (λ arch earlier h e. absurd (false≢true e), λ known e h. h)) (λ c κs. search needs) (λ c. search needs) (λ c. search needs) (λ c. search needs) returns-3)

@@ -2,6 +2,7 @@ use Rattle.rows.{proofs.Bools.not-both, proofs.Kit.{now, true, false, _≡_, sy
 use Rattle.igvm_defs.specs.Refusals.{isRefusal}
 use Rattle.sheet.{proofs.Readable.sheet-says, specs.Read.Readable, specs.Head.limits}
 use Rattle.sheet_headers.specs.Headers.{sheetHeaders}
+use Rattle.initialization_check.specs.Record.{HoldsRegions}
 use Rattle.rules.specs.Verdict.{platformsRefusal, initializationsRefusal}
 use Rattle.validation.proofs.{VerdictLaws.{headers-platforms, headers-initializations, headers-directives}, validate_headers.Statement.statement}
 use Rattle.validation.proofs.validate_headers.Tie as tie
@@ -34,19 +35,22 @@ returns-2 c =
     let e : isRefusal (initializationsRefusal (sheetHeaders (now (c .before .before .before .before .before .before .before .before .before .before .args .s)))) ≡ true = rw (← told) t in
     record { told = rw (c .no-contexts2 .ensures, told) (sym (headers-initializations _ (platforms-passed (c .before .before .before .before .before)) e)); holds = λ f. not-both (rw (c .no-contexts2 .ensures) at f) t }
 
+-- the record holds the file's regions
+regions-held : (c : tie.Else2) → HoldsRegions (c .before .before .before .validate-initialization-headers .result .regions) (sheetHeaders (now (c .before .before .before .before .before .before .before .before .before .args .s)) .initializations)
+regions-held c = c .before .before .before .validate-initialization-headers .ensures .holds (rw (← c .before .is-refusal2 .ensures) (c .if2 .left))
+
 start-of-requires : tie.Need-start-of-requires
-start-of-requires c κs = let p = c .before .before .before .before .before .before .before .before .before .pre in (readable (c .before .before .before .before .before .before .before .before), p .1, p .2, p .3)
+start-of-requires c κs = let e = c .before in let p = e .before .before .before .before .before .before .before .before .before .pre in ((readable (e .before .before .before .before .before .before .before .before), p .1, regions-held e), (p .2, p .3))
 
 validate-directive-headers-requires : tie.Need-validate-directive-headers-requires
 validate-directive-headers-requires c κs =
-    let e = c .before .before in
-    let holds = e .before .before .before .validate-initialization-headers .ensures .holds (rw (← e .before .is-refusal2 .ensures) (e .if2 .left)) in
+    let e = c .before .before .before in
     let from = c .before .start-of .ensures in
-    ((readable (e .before .before .before .before .before .before .before .before), e .before .before .before .before .before .before .before .before .before .pre .1, holds), (from .0, from .1))
+    ((readable (e .before .before .before .before .before .before .before .before), e .before .before .before .before .before .before .before .before .before .pre .1, regions-held e), (from .0, from .1))
 
 returns-3 : tie.Need-returns-3
 returns-3 c =
-    let d = c .validate-directive-headers .ensures in let e = c .before .before .before in
+    let d = c .validate-directive-headers .ensures in let e = c .before .before .before .before in
     record { told = d .told ∙ sym (headers-directives _ (platforms-passed (e .before .before .before .before)) (initializations-passed e)); holds = d .holds }
 
 pub validate-headers-spec : {M : Type 1} → statement M
