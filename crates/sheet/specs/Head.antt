@@ -30,10 +30,10 @@ abbrev pub initializationRows : ℕ
 initializationRows = 64
 
 abbrev pub directiveRows : ℕ
-directiveRows = 1024
+directiveRows = 8192
 
 abbrev pub sheetBytes : ℕ
-sheetBytes = 16777216
+sheetBytes = 67108864
 
 unfoldable pub limits : Limits
 limits = record { platforms = platformRows; initializations = initializationRows; directives = directiveRows; bytes = sheetBytes }

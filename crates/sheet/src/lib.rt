@@ -28,9 +28,9 @@ impl SheetHead {
 
     pub const INITIALIZATION_ROWS: usize = 64;
 
-    pub const DIRECTIVE_ROWS: usize = 1024;
+    pub const DIRECTIVE_ROWS: usize = 8192;
 
-    pub const SHEET_BYTES: usize = 16777216;
+    pub const SHEET_BYTES: usize = 67108864;
 
     pub fn new(s: &[u8]) -> SheetHead
         requires { ⌜ 16 ≤ length (now s) ⌝ }

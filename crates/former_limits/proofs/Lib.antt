@@ -1,0 +1,2 @@
+pub mod FormerLaws
+pub mod Theorem
