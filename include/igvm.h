@@ -24,15 +24,19 @@ extern "C" {
 #endif
 
 /* The library's version; docs/CHANGELOG.md of the repository says what changed. */
-enum { IGVM_VERSION_MAJOR = 0, IGVM_VERSION_MINOR = 2, IGVM_VERSION_PATCH = 0 };
+enum { IGVM_VERSION_MAJOR = 0, IGVM_VERSION_MINOR = 3, IGVM_VERSION_PATCH = 0 };
 
-/* Limits: a sheet with more rows in a list, or with more bytes, is refused by IGVM_ERROR_LIMIT_EXCEEDED. */
+/* Limits: a sheet with more rows in a list, or with more bytes, is refused by IGVM_ERROR_LIMIT_EXCEEDED.
+ *
+ * IGVM_STACK_BYTES is for every sheet. Most take less than 24,576 bytes of stack; about 100,000 are taken by a sheet that names more than 1,024 parameter areas with
+ * indexes from 1,024 on, by one with more than 1,024 directive rows that is refused for a directive row or by 34, and by one with a platform of another type behind a
+ * CCA platform of the same mask. */
 enum {
     IGVM_MAX_PLATFORM_ROWS = 16,
     IGVM_MAX_INITIALIZATION_ROWS = 64,
-    IGVM_MAX_DIRECTIVE_ROWS = 1024,
-    IGVM_MAX_SHEET_BYTES = 16777216,
-    IGVM_STACK_BYTES = 24576
+    IGVM_MAX_DIRECTIVE_ROWS = 8192,
+    IGVM_MAX_SHEET_BYTES = 67108864,
+    IGVM_STACK_BYTES = 114688
 };
 
 /* Numbers that every answer has. */

@@ -1,5 +1,6 @@
 /* Holds libigvm.a to what include/igvm.h says beside the proved contracts: calls and their siblings agree, on several threads at once, within IGVM_STACK_BYTES of
- * stack, and lent bytes that overlap the sheet get what others get. The arguments are files of sheets; the last line is `N sheets, S bytes of stack`. */
+ * stack, and lent bytes that overlap the sheet get what others get. The arguments are files of sheets. It writes the stack that each call takes on four images made
+ * here; the last line is `N sheets, S bytes of stack`, the most that any call took. */
 #define _GNU_SOURCE
 #include <pthread.h>
 #include <stdio.h>
@@ -13,6 +14,9 @@
 #define STACK ((size_t)1 << 20)
 #define WORDS ((size_t)IGVM_REGION_BYTES * IGVM_MAX_INITIALIZATION_ROWS)
 #define PAINT 0xA5
+
+/* On an image that names few areas every call takes less stack than this. */
+#define FEW_AREAS_STACK 24576
 
 static char **files;
 static int count;
@@ -99,38 +103,144 @@ static void *all_sheets(void *nothing) {
     return nothing;
 }
 
-/* The whole answers of every sheet, with as little of the stack as can be in use besides. */
-static void *answers_alone(void *nothing) {
-    static uint8_t numbers[8 * IGVM_RELOCATIONS_NUMBERS], words[WORDS];
-    for (int i = 0; i < count; i++) {
-        size_t n;
-        uint8_t *sheet = read_sheet(files[i], &n);
-        igvm_verdict_numbers(sheet, n, numbers, sizeof numbers);
-        igvm_relocations_numbers(sheet, n, 1, words, sizeof words, numbers, sizeof numbers);
-        igvm_relocation_base_valid_numbers(sheet, n, 1, 0, 0, numbers, sizeof numbers);
-        igvm_contains_numbers(sheet, n, 1, 0, 0, numbers, sizeof numbers);
-        free(sheet);
-    }
-    return nothing;
+/* Each call on a sheet, with as little of the stack as can be in use besides, and the two on a region's words. */
+static uint8_t numbers_lent[8 * IGVM_RELOCATIONS_NUMBERS], words_lent[WORDS];
+
+static void call_0(const uint8_t *s, size_t n) { igvm_verdict(s, n, 0); }
+static void call_1(const uint8_t *s, size_t n) { igvm_verdict_numbers(s, n, numbers_lent, sizeof numbers_lent); }
+static void call_2(const uint8_t *s, size_t n) { igvm_relocations(s, n, 1, words_lent, sizeof words_lent, 0); }
+static void call_3(const uint8_t *s, size_t n) { igvm_relocations_numbers(s, n, 1, words_lent, sizeof words_lent, numbers_lent, sizeof numbers_lent); }
+static void call_4(const uint8_t *s, size_t n) { igvm_relocation_base_valid(s, n, 1, 0, 0, 0); }
+static void call_5(const uint8_t *s, size_t n) { igvm_relocation_base_valid_numbers(s, n, 1, 0, 0, numbers_lent, sizeof numbers_lent); }
+static void call_6(const uint8_t *s, size_t n) { igvm_contains(s, n, 1, 0, 0, 0); }
+static void call_7(const uint8_t *s, size_t n) { igvm_contains_numbers(s, n, 1, 0, 0, numbers_lent, sizeof numbers_lent); }
+static void call_8(const uint8_t *s, size_t n) { igvm_region_base_valid(s, n, 0); }
+static void call_9(const uint8_t *s, size_t n) { igvm_region_contains(s, n, 0); }
+
+static const struct {
+    const char *name;
+    void (*made)(const uint8_t *, size_t);
+} calls[] = {
+    {"igvm_verdict", call_0},
+    {"igvm_verdict_numbers", call_1},
+    {"igvm_relocations", call_2},
+    {"igvm_relocations_numbers", call_3},
+    {"igvm_relocation_base_valid", call_4},
+    {"igvm_relocation_base_valid_numbers", call_5},
+    {"igvm_contains", call_6},
+    {"igvm_contains_numbers", call_7},
+    {"igvm_region_base_valid", call_8},
+    {"igvm_region_contains", call_9},
+};
+#define CALLS (sizeof calls / sizeof *calls)
+
+struct measured {
+    const uint8_t *sheet;
+    size_t n, call;
+    uint8_t *stack;
+    size_t taken;
+};
+
+static void *measure(void *given) {
+    struct measured *m = given;
+    const uint8_t *here = __builtin_frame_address(0), *low = m->stack;
+    calls[m->call].made(m->sheet, m->n);
+    while (*low == PAINT) low++;
+    m->taken = (size_t)(here - low);
+    return NULL;
 }
 
-/* How many bytes of a painted stack `run` has written. */
-static size_t stack_of(void *(*run)(void *)) {
-    uint8_t *stack = mmap(NULL, STACK, PROT_READ | PROT_WRITE, MAP_PRIVATE | MAP_ANONYMOUS, -1, 0);
+/* How many bytes of a painted stack a call has written. */
+static size_t stack_of(const char *what, const uint8_t *sheet, size_t n, size_t call) {
+    static uint8_t *stack;
+    if (!stack) stack = mmap(NULL, STACK, PROT_READ | PROT_WRITE, MAP_PRIVATE | MAP_ANONYMOUS, -1, 0);
     hold(stack != MAP_FAILED, "stack", "no memory");
     memset(stack, PAINT, STACK);
+    struct measured m = {sheet, n, call, stack, 0};
     pthread_attr_t attr;
     pthread_t thread;
     pthread_attr_init(&attr);
     pthread_attr_setstack(&attr, stack, STACK);
-    hold(pthread_create(&thread, &attr, run, NULL) == 0, "stack", "no thread");
+    hold(pthread_create(&thread, &attr, measure, &m) == 0, "stack", "no thread");
     pthread_join(thread, NULL);
-    size_t low = 0;
-    while (low < STACK && stack[low] == PAINT) low++;
-    return STACK - low;
+    pthread_attr_destroy(&attr);
+    if (m.taken >= IGVM_STACK_BYTES) fprintf(stderr, "%s: %zu bytes\n", calls[call].name, m.taken);
+    hold(m.taken < IGVM_STACK_BYTES, what, "a call takes IGVM_STACK_BYTES of stack or more");
+    return m.taken;
 }
 
-static void *no_answer(void *nothing) { return nothing; }
+/* The most that a call takes on one of the sheets. */
+static size_t stack_of_files(void) {
+    size_t most = 0;
+    for (int i = 0; i < count; i++) {
+        size_t n;
+        uint8_t *sheet = read_sheet(files[i], &n);
+        for (size_t call = 0; call < CALLS; call++) {
+            size_t taken = stack_of(files[i], sheet, n, call);
+            if (taken > most) most = taken;
+        }
+        free(sheet);
+    }
+    return most;
+}
+
+/* ---- images made here */
+
+static uint8_t image[16 + 8 * (2 + IGVM_MAX_DIRECTIVE_ROWS) + 16 + 48 + 12 * IGVM_MAX_DIRECTIVE_ROWS];
+static size_t image_bytes;
+
+static void put(uint64_t v, size_t width) {
+    for (size_t i = 0; i < width; i++) image[image_bytes++] = (uint8_t)(v >> (8 * i));
+}
+
+/* A sheet of revision 1 as far as its platform's body: head, and table of a platform row, regions, and directive rows of one kind and length. */
+static void put_image(size_t regions, size_t directives, uint64_t kind, uint64_t length) {
+    image_bytes = 0;
+    put(1, 8), put(1, 2), put(regions, 2), put(directives, 2), put(0, 2);
+    put(1, 4), put(16, 4);
+    for (size_t i = 0; i < regions; i++) put(18, 4), put(48, 4);
+    for (size_t i = 0; i < directives; i++) put(kind, 4), put(length, 4);
+    put(1, 4), put(0, 2), put(1, 2), put(0, 8);
+}
+
+static void put_b(void) {
+    put_image(1, 1, 47, 5);
+    put(1, 4), put(0x1000, 8), put(0x100000, 8), put(0x2000, 8), put(0, 8), put(0x200000, 8), put(0, 4);
+    put(1, 4), put(0, 1);
+}
+
+/* Areas whose indexes are spread over 32 bits, none of them below 1,024. The last is the first again, where it is to be refused. */
+static void put_areas(size_t areas, int refused) {
+    put_image(0, areas, 33, 12);
+    for (size_t k = 1; k <= areas; k++) put(0x1000, 8), put((refused && k == areas ? 1 : k) * 524287, 4);
+}
+
+/* What each call takes on the image, which gets this verdict: less than `bound`. Returns the most. */
+static size_t stack_of_image(const char *what, uint64_t number, uint64_t row, size_t bound) {
+    hold(igvm_verdict(image, image_bytes, IGVM_NUMBER) == number && igvm_verdict(image, image_bytes, IGVM_ROW) == row, what, "another verdict");
+    size_t most = 0;
+    printf("%s:", what);
+    for (size_t call = 0; call < CALLS; call++) {
+        size_t taken = stack_of(what, image, image_bytes, call);
+        printf("%s %s %zu", call ? "," : "", calls[call].name, taken);
+        hold(taken < bound, what, "a call takes more stack than it should on an image of few areas");
+        if (taken > most) most = taken;
+    }
+    printf("\n");
+    return most;
+}
+
+static size_t stack_of_images(void) {
+    put_b();
+    stack_of_image("image B", IGVM_ACCEPTED, 0, FEW_AREAS_STACK);
+    put_areas(1024, 0);
+    stack_of_image("1,024 areas", IGVM_ACCEPTED, 0, FEW_AREAS_STACK);
+    put_areas(IGVM_MAX_DIRECTIVE_ROWS, 0);
+    size_t accepted = stack_of_image("8,192 areas", IGVM_ACCEPTED, 0, IGVM_STACK_BYTES);
+    put_areas(IGVM_MAX_DIRECTIVE_ROWS, 1);
+    size_t refused = stack_of_image("8,192 areas, the last refused", IGVM_ERROR_INVALID_PARAMETER_AREA_INDEX, 1 + IGVM_MAX_DIRECTIVE_ROWS, IGVM_STACK_BYTES);
+    return accepted > refused ? accepted : refused;
+}
 
 int main(int argc, char **argv) {
     files = argv + 1;
@@ -139,8 +249,7 @@ int main(int argc, char **argv) {
     pthread_t threads[THREADS];
     for (size_t i = 0; i < THREADS; i++) hold(pthread_create(threads + i, NULL, all_sheets, NULL) == 0, "thread", "none");
     for (size_t i = 0; i < THREADS; i++) pthread_join(threads[i], NULL);
-    size_t taken = stack_of(answers_alone) - stack_of(no_answer);
-    hold(taken <= IGVM_STACK_BYTES, "stack", "a call takes more than IGVM_STACK_BYTES");
-    printf("%d sheets, %zu bytes of stack\n", count, taken);
+    size_t images = stack_of_images(), sheets = stack_of_files();
+    printf("%d sheets, %zu bytes of stack\n", count, images > sheets ? images : sheets);
     return 0;
 }
