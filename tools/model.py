@@ -1,4 +1,4 @@
-"""The verdict of document 01 on a sheet, and the refusals of its queries, written from the paper alone and as plainly as it goes.
+"""The verdict of document 01 on a sheet, with the limits of request 1, and the refusals of its queries, written from the papers alone and as plainly as it goes.
 
 It serves one purpose: `sheets.py --check` holds the lines that are written by hand beside the samples against it.
 Rows are numbered from 1 across the lists, as in the paper.
@@ -27,7 +27,8 @@ KINDS |= {kind: (2, 8, True) for kind in range(34, 44)}
 KINDS |= {44: (2, 17, True), 45: (2, 14, False), 46: (2, 6, False), 47: (2, 5, False), 48: (2, 5, False)}
 KINDS |= {49: (2, 6, False), 50: (2, 16, True), 51: (2, 16, True), 52: (2, 4, False), 53: (2, 4, False)}
 
-LIMITS = (16, 64, 1024)
+LIMITS = (16, 64, 8192)
+BYTE_LIMIT = 67108864
 
 
 def read(s):
@@ -36,7 +37,7 @@ def read(s):
     revision, arch, zeroes, page_size, *counts, zero = struct.unpack("<BBHIHHHH", s[:16])
     refuse(revision not in (1, 2) or arch not in (X64, AARCH64) or zeroes != 0 or zero != 0, 2)
     refuse(revision == 1 and (arch != X64 or page_size != 0), 2)
-    refuse(any(count > limit for count, limit in zip(counts, LIMITS)) or len(s) > 16777216, 3)
+    refuse(any(count > limit for count, limit in zip(counts, LIMITS)) or len(s) > BYTE_LIMIT, 3)
     at = 16 + 8 * sum(counts)
     refuse(len(s) < at, 1)
     lists = ([], [], [])

@@ -192,8 +192,13 @@ refused("03-17-platforms", 0, 0, "17 platform rows", B.platforms(*[platform()] *
 refused("14-16-platforms", 2, 0, "16 platform rows are within the limit; their types repeat", B.platforms(*[platform()] * 16))
 refused("03-65-initializations", 0, 0, "65 initialization rows", B.initializations(*[guest_policy()] * 65))
 accepted("64-initializations", "1 64 1", "64 initialization rows", B.initializations(*[guest_policy()] * 64))
-refused("03-1025-directives", 0, 0, "1,025 directive rows", B.directives(*[x64_vbs()] * 1025))
-accepted("1024-directives", "1 1 1024", "1,024 directive rows", B.directives(*[x64_vbs()] * 1024))
+refused("03-head-8193", 0, 0, "8,193 directive rows by the head, of which one is there", B.head(counts=(1, 1, 8193)))
+refused("01-head-8192", 0, 0, "8,192 directive rows by the head are within the limit; the table ends early", B.head(counts=(1, 1, 8192)))
+accepted("1024-directives", "1 1 1024", "1,024 directive rows, the former limit", B.directives(*[x64_vbs()] * 1024))
+accepted("1025-directives", "1 1 1025", "1,025 directive rows", B.directives(*[x64_vbs()] * 1025))
+accepted("5453-directives", "1 1 5453", "as many directive rows as 65,536 bytes can have: bodies of four bytes, but for the context", B.plus(*[vbs_measurement()] * 5452))
+refused("21-5452-directives", 5454, 1, "one row less, the last a page at gpa 1", B.plus(*[vbs_measurement()] * 5450, page_data(gpa=1)))
+refused("04-1025-directives", 1027, 0, "1,025 directive rows, the last of kind 0: over the former limit, it can't be read", B.directives(*[x64_vbs()] * 1024, Row(0, b"")))
 refused("03-before-01", 0, 0, "65 initialization rows by the head, and no table", bytes(B.head(counts=(1, 65, 1)))[:16])
 refused("03-counts", 0, 0, "65,535 rows in each list by the head", bytes(B.head(counts=(65535, 65535, 65535))))
 
@@ -316,6 +321,8 @@ refused("25-lowest", 4, 1, "mask 7, CCA at bit 1 alone: the lowest failing bit",
 refused("25-high", 3, 2147483648, "the highest bit without CCA", CCA.plus(cca_policy(mask=0x80000001)))
 accepted("policy-last", "2 2 1", "two platforms of one mask, the last is CCA", A.plus(platform(type=6), cca_policy()))
 refused("25-last", 4, 1, "two platforms of one mask, the first is CCA", CCA.plus(platform(type=1), cca_policy()))
+accepted("cca-first", "2 1 1", "two platforms of one mask, the first is CCA, and no policy asks for it", CCA.plus(platform(type=1)))
+refused("32-cca-first", 6, 0, "the same, and area 0 allocated twice", CCA.plus(platform(type=1), parameter_area(), parameter_area()))
 accepted("policy-mask-0", "1 2 1", "a CcaPolicy of mask 0 has no bit without CCA", A.plus(cca_policy(mask=0)))
 refused("25-before-19", 2, 1, "row 2: no CCA, row 3: alignment 0", A.initializations(cca_policy(), region(alignment=0)))
 
@@ -506,16 +513,51 @@ FULL = B.platforms(*SIX).initializations(*SIXTY_FOUR)
 NAMING = [row for area in range(256) for row in (
     parameter_area(area=area), PARAMETERS[area % 10](area=area), PARAMETERS[9 - area % 10](area=area), parameter_insert(area=area)
 )]
-accepted("largest-lists", "6 64 1024", "as many rows as can be accepted: X64 has six types", FULL.directives(*[page_data()] * 1023, x64_vbs()))
-refused("34-largest-lists", 0, 0, "the same, the last region without its context", FULL.initializations(
+accepted("former-largest-lists", "6 64 1024", "as many rows as could be accepted within the former limits", FULL.directives(*[page_data()] * 1023, x64_vbs()))
+refused("34-former-largest-lists", 0, 0, "the same, the last region without its context", FULL.initializations(
     *SIXTY_FOUR[:-1], region(gpa=0x7E000, vtl=1)
 ).directives(*[x64_vbs()] * 1024))
 refused("29-64-regions", 65, 0, "64 regions, the last overlaps the first", B.initializations(*SIXTY_FOUR[:-1], region(gpa=0x1000, size=0x1000)))
 accepted("1024-areas", "1 0 1024", "1,024 rows naming 256 areas, each allocated, named twice and inserted", B.initializations().directives(*NAMING))
 refused("32-1024-areas", 1025, 0, "the same, the last row names the first area again", B.initializations().directives(*NAMING[:-1], vp_count(area=0)))
 
+# many areas: indexes below 1,024, spread over 32 bits from 1,024 on, and all of one root in the library's table of areas
+ALONE = B.initializations().directives()  # a platform and nothing else
+SPREAD = [524287 * number for number in range(1, 8193)]
+CROWDED = [340573321 * number % 2**32 for number in range(1, 8193)]
+
+
+def allocated(areas):
+    return [parameter_area(area=area) for area in areas]
+
+
+def inserted(areas):
+    """Each area allocated, named and inserted."""
+    return [row for area in areas for row in (parameter_area(area=area), vp_count(area=area), parameter_insert(area=area))]
+
+
+accepted("1024-spread-areas", "1 0 3072", "1,024 areas with indexes from 1,024 on, each allocated, named and inserted", ALONE.plus(*inserted(SPREAD[:1024])))
+accepted("1025-spread-areas", "1 0 3075", "1,025 such areas", ALONE.plus(*inserted(SPREAD[:1025])))
+refused("32-1025-spread-areas", 3076, 0, "the same, the last row inserts the first area again", ALONE.plus(
+    *inserted(SPREAD[:1025])[:-1], parameter_insert(area=SPREAD[0])
+))
+refused("32-1025-again", 1027, 0, "1,025 such areas, then the first allocated again, then a page of type 4", ALONE.plus(
+    *allocated(SPREAD[:1025]), parameter_area(area=SPREAD[0]), page_data(type=4)
+))
+refused("21-1025-spread-areas", 1027, 1, "1,025 such areas, then a page at gpa 1", ALONE.plus(*allocated(SPREAD[:1025]), page_data(gpa=1)))
+refused("33-1025-spread-areas", 1030, 0, "1,025 such areas, then the last inserted in the page table", TABLE.plus(
+    *allocated(SPREAD[:1025]), parameter_insert(area=SPREAD[1024], gpa=0x301000)
+))
+refused("34-1025-spread-areas", 0, 0, "1,025 such areas, and a region without its context", B.directives(*allocated(SPREAD[:1025])))
+refused("06-1025-spread-areas", 0, 0, "1,025 such areas, and one byte more", bytes(ALONE.plus(*allocated(SPREAD[:1025]))) + b"\0")
+accepted("1025-areas-and-context", "1 2 1026", "1,025 such areas behind the context of a region and a page table", TABLE.plus(*allocated(SPREAD[:1025])))
+accepted("2048-areas", "1 0 2048", "1,024 areas with indexes below 1,024, then 1,024 from there on", ALONE.plus(*allocated(range(2048))))
+accepted("2049-areas", "1 0 2049", "one area more", ALONE.plus(*allocated(range(2049))))
+accepted("3274-areas", "1 0 3274", "as many areas as 65,536 bytes can have, all of one root", ALONE.plus(*allocated(CROWDED[:3274])))
+refused("32-3274-areas", 3275, 0, "the same, the last is the first again", ALONE.plus(*allocated(CROWDED[:3273] + CROWDED[:1])))
+
 # Of more than 65,536 bytes the line is that of the call; `admit` refuses them all by 3.
-LIMIT = 16777216
+FORMER_LIMIT, LIMIT = 16777216, 67108864
 
 
 def of_length(length, sheet=B):
@@ -526,11 +568,30 @@ def of_length(length, sheet=B):
 
 accepted("65536-bytes", "1 1 1", "B of 65,536 bytes", lambda: of_length(65536))
 accepted("65537-bytes", "1 1 1", "B of 65,537 bytes", lambda: of_length(65537))
-accepted("largest-sheet", "6 64 1024", "the largest lists in 16,777,216 bytes, every page full", lambda: of_length(
-    LIMIT, FULL.directives(*[page_data(tail=bytes(4096))] * 1023, x64_vbs())
+accepted("6000-pages", "1 1 6001", "a context and 6,000 pages", lambda: B.plus(*[page_data(gpa=0x1000 * page) for page in range(6000)]))
+accepted("8192-directives", "1 1 8192", "8,192 directive rows; with its entry of the table a row takes at least 12 bytes, so that 65,536 bytes can't have as many",
+         lambda: B.directives(*[x64_vbs()] * 8192))
+refused("03-8193-directives", 0, 0, "8,193 directive rows", lambda: B.directives(*[x64_vbs()] * 8193))
+accepted("8192-areas", "1 0 8192", "8,192 areas spread over 32 bits", lambda: ALONE.plus(*allocated(SPREAD)))
+refused("32-8192-areas", 8193, 0, "the same, the last is the first again", lambda: ALONE.plus(*allocated(SPREAD[:-1] + SPREAD[:1])))
+accepted("8192-crowded-areas", "1 0 8192", "8,192 areas of one root", lambda: ALONE.plus(*allocated(CROWDED)))
+accepted("2730-areas", "1 0 8190", "2,730 areas, each allocated, named and inserted", lambda: ALONE.plus(*inserted(SPREAD[:2730])))
+accepted("largest-lists", "6 64 8192", "as many rows as can be accepted: X64 has six types", lambda: FULL.directives(*[page_data()] * 8191, x64_vbs()))
+refused("34-largest-lists", 0, 0, "the same number of rows, the last region without its context", lambda: FULL.initializations(
+    *SIXTY_FOUR[:-1], region(gpa=0x7E000, vtl=1)
+).directives(*[x64_vbs()] * 8192))
+refused("30-largest-lists", 8262, 0, "the largest lists, the last row a page of type 4", lambda: FULL.directives(
+    *[page_data()] * 8190, x64_vbs(), page_data(type=4)
 ))
-refused("03-bytes", 0, 0, "B of 16,777,217 bytes", lambda: of_length(LIMIT + 1))
-refused("02-before-03-bytes", 0, 0, "16,777,217 zero bytes", lambda: bytes(LIMIT + 1))
+accepted("16777216-bytes", "1 1 1", "B of 16,777,216 bytes, the former limit", lambda: of_length(FORMER_LIMIT))
+accepted("16777217-bytes", "1 1 1", "B of 16,777,217 bytes", lambda: of_length(FORMER_LIMIT + 1))
+refused("06-16777217-bytes", 0, 0, "B and zeroes behind it, 16,777,217 bytes: over the former limit, it can't be read",
+        lambda: bytes(B).ljust(FORMER_LIMIT + 1, b"\0"))
+accepted("largest-sheet", "6 64 8192", "the largest lists in 67,108,864 bytes, every page full", lambda: of_length(
+    LIMIT, FULL.directives(*[page_data(tail=bytes(4096))] * 8191, x64_vbs())
+))
+refused("03-bytes", 0, 0, "B of 67,108,865 bytes", lambda: of_length(LIMIT + 1))
+refused("02-before-03-bytes", 0, 0, "67,108,865 zero bytes", lambda: bytes(LIMIT + 1))
 
 
 # ---- the program of the gate
@@ -591,10 +652,14 @@ SHOWN = [
     Shown("accepted-three-vtls", "vtls", "three regions of one mask, each with a context of its VTL"),
     Shown("accepted-two-masks", "apart-by-mask", "regions of masks 1 and 2 at one place"),
     Shown("accepted-areas", "areas", "two parameter areas, named and inserted in turn"),
+    Shown("accepted-former-largest-lists", "former-largest-lists", "as many rows as could be accepted within the former limits, 1,024 directive rows"),
     Shown("accepted-largest-lists", "largest-lists", "as many rows as can be accepted"),
+    Shown("accepted-6000-pages", "6000-pages", "a firmware of 6,000 pages, without their data"),
+    Shown("accepted-8192-directives", "8192-directives", "8,192 directive rows, of at most 8,192"),
     Shown("01-empty", "01-empty", "no bytes at all"),
     Shown("02-revision-0", "02-revision-0", "a head of revision 0"),
     Shown("03-65-initializations", "03-65-initializations", "65 initialization rows, of at most 64"),
+    Shown("03-8193-directives", "03-8193-directives", "8,193 directive rows, of at most 8,192"),
     Shown("04-kind-0", "04-kind-0", "a platform row of kind 0"),
     Shown("05-vtl-3", "05-vtl-18", "a region of VTL 3, of at most 2"),
     Shown("06-one-byte-more", "06-byte", "a byte behind the last body"),
@@ -639,7 +704,8 @@ One sheet for each refusal and some that are accepted. `admit` answers the verdi
 
     rt check admit && target/bin/admit < samples/19-alignment-zero.sheet
 
-The verdict accepts the last three; it is the call beside them that is refused (`lent` is in bytes). `docs/SHEET.md` says how a sheet is written, `docs/REFUSALS.md` what each
+It takes up to 65,536 bytes and refuses by 3 what is longer: `accepted-largest-lists`, `accepted-6000-pages`, `accepted-8192-directives` and `03-8193-directives`, whose answers beside them are those of the library's
+call and of the examples in Rust and in C. The verdict accepts the last three; it is the call beside them that is refused (`lent` is in bytes). `docs/SHEET.md` says how a sheet is written, `docs/REFUSALS.md` what each
 refusal means and how to mend it. `tools/sheets.py --samples` writes this folder, and `tools/sheets.py --check` holds it to the samples and the lines of its list.
 
 | file | call | answer | what it shows |
