@@ -6,7 +6,7 @@ use std::io::Read;
 use std::process::ExitCode;
 
 /// One byte more than the longest sheet, so that a longer input is refused, not cut.
-const MOST_BYTES: u64 = 16_777_217;
+const MOST_BYTES: u64 = 67_108_865;
 
 fn answer(sheet: &[u8], mask: u32) -> Result<(), Refusal> {
     println!("{}", verdict(sheet)?.line());

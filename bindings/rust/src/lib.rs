@@ -27,6 +27,9 @@
 //! # Ok::<(), SheetError>(())
 //! ```
 //!
+//! A sheet has at most 8,192 directive headers and 67,108,864 bytes. A thread that makes calls needs up to 128 KiB of stack: most sheets take less than 24 of
+//! them, and docs/MIGRATION.md of the repository says which take more.
+//!
 //! Headers, fields and errors have the names of crate igvm 0.5.0, whose `IgvmFile::new` and `relocations` the library stands for. With the feature `igvm`
 //! the macro `igvm_adapter` makes sheets of that crate's own headers.
 //!

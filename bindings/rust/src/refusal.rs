@@ -93,7 +93,7 @@ errors! {
     2 InvalidHead, "the sheet's head breaks its layout",
         "write revision 1 with architecture 0 and page size 0, or revision 2 with architecture 0 or 1, and zeroes in the head's two reserved fields", Detail::None;
     3 LimitExceeded, "the sheet has more rows or bytes than the limits allow",
-        "keep to 16 platform, 64 initialization and 1,024 directive rows and to 16,777,216 bytes", Detail::None;
+        "keep to 16 platform, 64 initialization and 8,192 directive rows and to 67,108,864 bytes", Detail::None;
     4 InvalidKind, "the row's kind does not belong in its list",
         "give a platform row kind 1, an initialization row one of 16 to 19, a directive row one of 32 to 53", Detail::None;
     5 InvalidBody, "the row's body has a wrong length, or a VTL, flags or a boolean out of range",

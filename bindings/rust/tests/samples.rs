@@ -63,7 +63,10 @@ fn the_list_names_every_file() {
 #[test]
 fn every_refusal_has_a_sample_and_a_name() {
     let refusals: Vec<Error> = samples().iter().filter_map(|sample| sample.made().err()).map(|refusal| refusal.error).collect();
-    assert_eq!(refusals.iter().map(|error| error.number()).collect::<Vec<_>>(), (1..=37).collect::<Vec<_>>());
+    let mut numbers: Vec<u64> = refusals.iter().map(|error| error.number()).collect();
+    assert!(numbers.windows(2).all(|pair| pair[0] <= pair[1]), "the list has them in order");
+    numbers.dedup();
+    assert_eq!(numbers, (1..=37).collect::<Vec<_>>());
     let names: BTreeSet<&str> = refusals.iter().map(|error| error.name()).collect();
     assert_eq!(names.len(), 37);
     assert!(!names.contains("Unknown"));
