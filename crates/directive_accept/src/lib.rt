@@ -152,7 +152,8 @@ fn past_named<'a>(
     c
 }
 
-// The rows from the first that names an area on, where they are few: a tiny table takes less time to clear.
+// The rows from the first that names an area on, where they are few: a tiny table takes less time to clear. The slices are taken again: so they are stored where
+// they are passed on, and not before.
 fn past_few_areas<'a>(
     s: &'a [u8],
     from: Cursor,
