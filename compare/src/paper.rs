@@ -3,6 +3,7 @@
 // mutations.txt edits this text: each wrong copy must be caught.
 
 use calls::Calls;
+use std::collections::HashMap;
 
 /// A refusal: number, row (0 for the whole) and detail.
 #[derive(Clone, Copy, Debug, PartialEq, Eq)]
@@ -25,8 +26,8 @@ const CCA: u64 = 6;
 
 // ---- the sheet
 
-const ROW_LIMITS: [u64; 3] = [16, 64, 1024];
-const BYTE_LIMIT: usize = 16_777_216;
+const ROW_LIMITS: [u64; 3] = [16, 64, 8192];
+const BYTE_LIMIT: usize = 67_108_864;
 
 /// Of a kind: its list, the least length of its body, and whether that length is exact.
 fn kind_rule(kind: u64) -> Option<(usize, usize, bool)> {
@@ -264,14 +265,16 @@ fn overlap(a: &Region, b: &Region) -> bool {
 
 // ---- directive rows: 21, 30, 22, 31, 24, 32, 33
 
-/// A parameter area: its index, and whether it was inserted.
+/// A parameter area that was allocated, and whether it was inserted.
 struct Area {
-    index: u64,
     inserted: bool,
 }
 
+/// The areas by their indexes.
+type Areas = HashMap<u64, Area>;
+
 fn directive_rows(sheet: &Sheet, regions: &[Region]) -> Checked {
-    let mut areas = Vec::new();
+    let mut areas = Areas::new();
     for row in &sheet.directives {
         aligned_directive(row)?;
         refuse(!arch_has(sheet.arch, row.kind), 24, row.number, row.kind)?;
@@ -312,16 +315,16 @@ fn arch_has(arch: u64, kind: u64) -> bool {
 }
 
 /// An area index may be allocated once, named while allocated, inserted once.
-fn area_rule(row: &Row, areas: &mut Vec<Area>) -> bool {
+fn area_rule(row: &Row, areas: &mut Areas) -> bool {
     let index = match row.kind {
         33 => row.field(8, 4),
         34..=43 => row.field(0, 4),
         50 => row.field(12, 4),
         _ => return true,
     };
-    let area = areas.iter_mut().find(|area| area.index == index);
+    let area = areas.get_mut(&index);
     match (row.kind, area) {
-        (33, None) => areas.push(Area { index, inserted: false }),
+        (33, None) => drop(areas.insert(index, Area { inserted: false })),
         (33, Some(_)) | (_, None) => return false,
         (_, Some(area)) => {
             if area.inserted {

@@ -93,7 +93,7 @@ impl<'a> Sheet<'a> {
             return Err(Refusal(2, 0, 0));
         }
         let [platforms, initializations, directives] = [8, 10, 12].map(|at| usize::from(u16_at(head, at)));
-        if platforms > 16 || initializations > 64 || directives > 1024 || sheet.len() > 16_777_216 {
+        if platforms > 16 || initializations > 64 || directives > 8192 || sheet.len() > 67_108_864 {
             return Err(Refusal(3, 0, 0));
         }
         let Some((table, bodies)) = behind.split_at_checked(8 * (platforms + initializations + directives)) else {

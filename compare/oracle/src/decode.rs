@@ -70,7 +70,7 @@ impl Headers {
         if zeroes != 0 || head.u16()? != 0 {
             return None;
         }
-        if counts[0] > 16 || counts[1] > 64 || counts[2] > 1024 || sheet.len() > 16_777_216 {
+        if counts[0] > 16 || counts[1] > 64 || counts[2] > 8192 || sheet.len() > 67_108_864 {
             return None;
         }
         let mut headers = Headers {
