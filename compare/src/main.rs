@@ -6,6 +6,7 @@ mod compare;
 mod generate;
 mod library;
 mod loader;
+mod memory;
 mod order;
 mod paper;
 mod places;

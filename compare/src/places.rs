@@ -72,6 +72,11 @@ impl Placed {
         }
     }
 
+    /// It answers as the case says. A build of other limits may refuse the image.
+    fn answers(&self, case: &Case) -> bool {
+        self.ask(case, &mut [0; 64 * 64]) == case.number()
+    }
+
     /// Nanoseconds of a call, after one that is not measured.
     fn nanoseconds(&self, case: &Case, times: usize) -> f64 {
         let mut lent = [0; 64 * 64];
@@ -98,8 +103,8 @@ const PEERS: [Side; 2] = [Side::Plain, Side::Ready];
 
 /// The least times of a call, in nanoseconds.
 struct Best {
-    /// of each build at each place
-    builds: Vec<Vec<f64>>,
+    /// of each build at each place; none where it does not answer as the case says
+    builds: Vec<Option<Vec<f64>>>,
     /// of each peer; none where it has no answer
     peers: Vec<Option<f64>>,
 }
@@ -107,14 +112,17 @@ struct Best {
 impl Best {
     /// All take turns.
     fn new(case: &Case, builds: &[Vec<Placed>], rounds: u64) -> Best {
+        let places = |build: &Vec<Placed>| build[0].answers(case).then(|| vec![f64::INFINITY; PLACES.len()]);
         let has = |side: &Side| case.has(*side).then_some(f64::INFINITY);
-        let mut best = Best { builds: vec![vec![f64::INFINITY; PLACES.len()]; builds.len()], peers: PEERS.iter().map(has).collect() };
+        let mut best = Best { builds: builds.iter().map(places).collect(), peers: PEERS.iter().map(has).collect() };
         let times = case.times();
         for round in 0..rounds {
             deeper(round % DEPTHS, &mut || {
                 for place in 0..PLACES.len() {
                     for (least, build) in best.builds.iter_mut().zip(builds) {
-                        least[place] = least[place].min(build[place].nanoseconds(case, times));
+                        if let Some(least) = least {
+                            least[place] = least[place].min(build[place].nanoseconds(case, times));
+                        }
                     }
                 }
                 for (least, side) in best.peers.iter_mut().zip(PEERS) {
@@ -126,13 +134,19 @@ impl Best {
     }
 
     fn line(&self, name: &str) -> String {
-        let means: Vec<f64> = self.builds.iter().map(|least| least.iter().sum::<f64>() / least.len() as f64).collect();
-        let (other, library) = (means[0], means[1]);
-        let mut line = format!("{name:<24}{other:>9.0}{library:>9.0}{:>8.3}", library / other);
-        for peer in &self.peers {
-            line += &peer.map_or(format!("{:>9}{:>8}", "-", "-"), |peer| format!("{peer:>9.0}{:>8.2}", library / peer));
+        let mean = |least: &Option<Vec<f64>>| least.as_ref().map(|least| least.iter().sum::<f64>() / least.len() as f64);
+        let (other, library) = (mean(&self.builds[0]), mean(&self.builds[1]));
+        let column = |number: Option<f64>, width: usize, digits: usize| {
+            number.map_or(format!("{:>width$}", "-"), |number| format!("{number:>width$.digits$}"))
+        };
+        let ratio = |other: Option<f64>| library.zip(other).map(|(library, other)| library / other);
+        let mut line = format!("{name:<24}{}{}{}", column(other, 9, 0), column(library, 9, 0), column(ratio(other), 8, 3));
+        for &peer in &self.peers {
+            line += &(column(peer, 9, 0) + &column(ratio(peer), 8, 2));
         }
-        let each = |least: &Vec<f64>| least.iter().map(|ns| format!("{ns:>7.0}")).collect::<String>();
+        let each = |least: &Option<Vec<f64>>| {
+            (0..PLACES.len()).map(|place| column(least.as_ref().map(|least| least[place]), 7, 0)).collect::<String>()
+        };
         line + "  " + &self.builds.iter().map(each).collect::<Vec<String>>().join("  ")
     }
 }
@@ -145,6 +159,9 @@ pub fn run(folder: &str, settings: &Settings) -> Result<(), String> {
         [("other", 9), ("library", 9), ("ratio", 8), ("plain", 9), ("ratio", 8), ("rust", 9), ("ratio", 8), ("other", 30), ("library", 30)];
     println!("{:<24}{}", "case", columns.map(|(column, width)| format!("{column:>width$}")).concat());
     for case in settings.cases()?.iter().filter(|case| builds.iter().flatten().all(|build| build.has(case))) {
+        if !builds[1][0].answers(case) {
+            return Err(format!("{}: the library answers otherwise", case.name));
+        }
         println!("{}", Best::new(case, &builds, settings.rounds).line(&case.name));
     }
     Ok(())

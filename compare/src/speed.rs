@@ -1,5 +1,6 @@
 //! The time of the calls, of plain.rs and of the Rust, on the same images and in one run. README.md says what is measured.
 
+use crate::memory::Sheet;
 use crate::sheet::{Image, Row};
 use crate::short::{native, page_table, region, vbs};
 use crate::{loader, paper, plain};
@@ -20,7 +21,12 @@ pub struct Settings {
 impl Settings {
     /// The cases that are measured.
     pub fn cases(&self) -> Result<Vec<Case>, String> {
-        let cases: Vec<Case> = cases().into_iter().filter(|case| self.only.as_ref().is_none_or(|only| *only == case.name)).collect();
+        let mut cases = Vec::new();
+        each_case(&mut |name, make| {
+            if self.only.as_ref().is_none_or(|only| *only == name) {
+                cases.push(make(name));
+            }
+        });
         if cases.is_empty() {
             return Err("no such case".into());
         }
@@ -72,7 +78,7 @@ use Question::{Accepted, Loader, Numbers, Refused, Relocations};
 /// An image, and what is asked of it.
 pub struct Case {
     pub name: String,
-    pub sheet: Vec<u8>,
+    pub sheet: Sheet,
     headers: Headers,
     pub question: Question,
 }
@@ -95,7 +101,7 @@ pub fn run(calls: &Calls, settings: &Settings) -> Result<(), String> {
 
 /// The name of each case.
 pub fn names() -> Result<(), String> {
-    cases().iter().for_each(|case| println!("{}", case.name));
+    each_case(&mut |name, _| println!("{name}"));
     Ok(())
 }
 
@@ -122,7 +128,7 @@ fn new_file(headers: Headers) -> Result<IgvmFile, oracle::Error> {
 
 impl Case {
     fn new(name: String, image: &Image, question: Question) -> Case {
-        let sheet = image.bytes();
+        let sheet = Sheet::of(&image.bytes());
         let headers = Headers::decode(&sheet).expect("a readable image");
         Case { name, sheet, headers, question }
     }
@@ -257,44 +263,55 @@ impl Case {
 
 // ---- the images
 
-fn cases() -> Vec<Case> {
-    let mut cases = vec![Case::new("b".into(), &b(), Accepted), Case::new("largest".into(), &largest(), Accepted)];
-    let mut add = |name: &str, rows: u64, image: Image, question: Question| {
-        cases.push(Case::new(format!("{name}-{rows}"), &image, question));
-    };
+/// The rows of images that grow.
+const ROWS: [u64; 8] = [64, 128, 256, 512, 1024, 2048, 4096, 8192];
+
+/// The directive rows up to which the library has a small table of areas, and the most that a sheet may have.
+const MOST: [u64; 2] = [1024, 8192];
+
+/// Gives each case's name, and what makes the case of its name: an image of many rows takes long to make.
+fn each_case(each: &mut dyn FnMut(String, &dyn Fn(String) -> Case)) {
+    let mut add = |name: String, question: Question, image: &dyn Fn() -> Image| each(name, &|name| Case::new(name, &image(), question));
+    add("b".into(), Accepted, &b);
+    add("largest".into(), Accepted, &|| largest(1024));
+    add("largest-8192".into(), Accepted, &|| largest(8192));
     for rows in [8, 16, 32, 64] {
-        add("initializations", rows, initializations(rows), Accepted);
+        add(format!("initializations-{rows}"), Accepted, &|| initializations(rows));
     }
-    add("table", 64, with_table(64), Accepted);
-    add("table-first", 64, table_first(64), Accepted);
-    add("descending", 64, descending(64, 1), Accepted);
-    add("bits", 64, descending(64, 0xFFFF_FFFF), Accepted);
-    for rows in [64, 128, 256, 512, 1024] {
-        add("pages", rows, pages(rows, 0), Accepted);
-        add("full-pages", rows, pages(rows, 4096), Accepted);
-        add("areas", rows, areas(rows, 1), Accepted);
-        add("spread-areas", rows, areas(rows, 0x9E37_79B1), Accepted);
-        add("last-area", rows, last_area(rows), Accepted);
-        add("first-area", rows, first_area(rows), Accepted);
-        add("one-area", rows, one_area(rows), Accepted);
-        add("triples", rows, triples(rows), Accepted);
+    add("table-64".into(), Accepted, &|| with_table(64));
+    add("table-first-64".into(), Accepted, &|| table_first(64));
+    add("descending-64".into(), Accepted, &|| descending(64, 1));
+    add("bits-64".into(), Accepted, &|| descending(64, 0xFFFF_FFFF));
+    for rows in ROWS {
+        add(format!("pages-{rows}"), Accepted, &|| pages(rows, 0));
+        add(format!("full-pages-{rows}"), Accepted, &|| pages(rows, 4096));
+        add(format!("areas-{rows}"), Accepted, &|| areas(rows, 1));
+        add(format!("spread-areas-{rows}"), Accepted, &|| areas(rows, SPREAD));
+        add(format!("last-area-{rows}"), Accepted, &|| last_area(rows));
+        add(format!("first-area-{rows}"), Accepted, &|| first_area(rows));
+        add(format!("one-area-{rows}"), Accepted, &|| one_area(rows));
+        add(format!("triples-{rows}"), Accepted, &|| triples(rows));
     }
-    add("contexts", 1024, contexts(1024), Accepted);
-    add("crowded-areas", 1024, areas(1024, 340_573_321), Accepted);
-    add("refused", 64, last_overlaps(64), Refused(29));
-    add("refused-pages", 1024, last_page_of_no_type(1024), Refused(30));
-    add("refused-areas", 1024, last_use_of_no_area(1024), Refused(32));
+    for rows in MOST {
+        add(format!("many-areas-{rows}"), Accepted, &|| many_areas(rows));
+        add(format!("crowded-areas-{rows}"), Accepted, &|| areas(rows, 340_573_321));
+        add(format!("contexts-{rows}"), Accepted, &|| contexts(rows));
+    }
+    add("refused-64".into(), Refused(29), &|| last_overlaps(64));
+    for rows in MOST {
+        add(format!("refused-pages-{rows}"), Refused(30), &|| last_page_of_no_type(rows));
+        add(format!("refused-areas-{rows}"), Refused(32), &|| last_use_of_no_area(rows));
+    }
     for rows in [8, 16, 32, 64] {
-        add("relocations", rows, initializations(rows), Relocations);
+        add(format!("relocations-{rows}"), Relocations, &|| initializations(rows));
     }
-    add("relocations-table", 64, with_table(64), Relocations);
-    add("numbers", 64, initializations(64), Numbers);
+    add("relocations-table-64".into(), Relocations, &|| with_table(64));
+    add("numbers-64".into(), Numbers, &|| initializations(64));
     if loader::BY_LIBRARY.is_some() {
-        add("loader", 64, with_table(64), Loader);
+        add("loader-64".into(), Loader, &|| with_table(64));
     }
-    cases.push(Case::new("relocations-b".into(), &b(), Relocations));
-    cases.push(Case::new("numbers-b".into(), &b(), Numbers));
-    cases
+    add("relocations-b".into(), Relocations, &b);
+    add("numbers-b".into(), Numbers, &b);
 }
 
 fn image(initializations: Vec<Row>, directives: Vec<Row>) -> Image {
@@ -363,13 +380,16 @@ fn contexts(rows: u64) -> Image {
     image(vec![], (0..rows).map(row).collect())
 }
 
-/// As many rows of each list as can be accepted: the six platform types of X64, 64 regions, a context and 1,023 pages.
-fn largest() -> Image {
+/// As many rows of the first two lists as can be accepted, the six platform types of X64 and 64 regions; of directives so many, a context and pages.
+fn largest(directives: u64) -> Image {
     let mut image = initializations(64);
     image.lists[0] = (0..6).map(|kind| Row::new(1, &[1 << kind, 0, kind, 1, 0])).collect();
-    image.lists[2].append(&mut pages(1023, 0).lists[2]);
+    image.lists[2].append(&mut pages(directives - 1, 0).lists[2]);
     image
 }
+
+/// Spreads indexes over 32 bits.
+const SPREAD: u64 = 0x9E37_79B1;
 
 /// A quarter of the rows are areas, then each is used twice, then each is inserted. Area n has the index n times `step`.
 fn areas(rows: u64, step: u64) -> Image {
@@ -379,6 +399,11 @@ fn areas(rows: u64, step: u64) -> Image {
     let used = (0..2 * count).map(|use_| Row::new(34 + (use_ % 10) as u32, &[index(use_ % count), 0]));
     let inserted = (0..count).map(|area| Row::new(50, &[0x1000 * area, 1, index(area)]));
     image(vec![], allocated.chain(used).chain(inserted).collect())
+}
+
+/// Each row allocates an area; their indexes are spread over 32 bits.
+fn many_areas(rows: u64) -> Image {
+    image(vec![], (0..rows).map(|row| Row::new(33, &[0x1000, (row * SPREAD) & 0xFFFF_FFFF])).collect())
 }
 
 /// One area less than half of the rows, then uses of one of them: `used` gives its index from their number.
