@@ -5,7 +5,7 @@ use crate::compare::{Call, Difference, Rust};
 use crate::random::Random;
 use crate::run::{on_threads, Run};
 use crate::sheet::{fields_length, hex, kinds, Image, Row};
-use crate::{generate, paper, plan, short, shrink};
+use crate::{generate, large, paper, plan, short, shrink};
 use calls::Calls;
 use oracle::Headers;
 
@@ -13,6 +13,9 @@ use oracle::Headers;
 pub mod made {
     sapyullu::igvm_adapter!(oracle, oracle::igvm_defs);
 }
+
+/// One image of so many is large.
+const LARGE_SHARE: u64 = 2000;
 
 /// The sheet of the headers.
 pub fn sheet(headers: &Headers) -> Result<Vec<u8>, sapyullu::SheetError> {
@@ -33,8 +36,14 @@ pub fn run(calls: &Calls, seed: u64, cases: u64, threads: usize) -> Result<(), S
     }
     seen.every_kind()?;
     let tally = &seen.run.tally;
+    let large: u64 = tally.large_verdicts.iter().sum();
     println!("adapter: {} images agree, {} of them with the Rust too, {} accepted,", tally.cases, tally.with_rust, tally.verdicts[0]);
-    println!("  {} regions, {} region lists by crate sapyullu; {:.1?}", tally.regions, seen.lists, start.elapsed());
+    println!(
+        "  {large} of more than 1,024 directive rows, {} regions, {} region lists by crate sapyullu; {:.1?}",
+        tally.regions,
+        seen.lists,
+        start.elapsed()
+    );
     Ok(())
 }
 
@@ -84,7 +93,11 @@ impl<'a> Seen<'a> {
     fn images(&mut self, seed: u64, cases: impl Iterator<Item = u64>) -> Result<(), String> {
         for case in cases {
             let mut random = Random::new(seed ^ 0x6164_6170_7465, case);
-            let sheet = generate::readable_image(&mut random, &[0, 0, 1, 1, 1, 2, 3]).bytes();
+            let image = match case % LARGE_SHARE {
+                0 => large::readable_image(&mut random),
+                _ => generate::readable_image(&mut random, &[0, 0, 1, 1, 1, 2, 3]),
+            };
+            let sheet = image.bytes();
             let headers = Headers::decode(&sheet).expect("a readable image");
             let compared = self.image(&mut random, &sheet, headers);
             compared.map_err(|what| text(&format!("image {case} of seed {seed}"), &what, &sheet))?;

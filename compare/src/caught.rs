@@ -2,7 +2,7 @@
 
 use crate::compare::Difference;
 use crate::region;
-use crate::run::{random_cases, Run};
+use crate::run::{random_cases, Run, Sort};
 use calls::Calls;
 
 /// Random regions' bytes that a wrong copy is asked of.
@@ -11,19 +11,23 @@ const REGIONS: u64 = 20_000;
 /// Random sheets that it is asked of before the short ones, which are more.
 const FIRST: u64 = 10_000;
 
-/// The first difference, in regions' bytes, random sheets or the short ones, and where it was found.
+/// Large sheets that it is asked of before the short ones.
+const LARGE: u64 = 20;
+
+/// The first difference, in regions' bytes, random sheets, large ones or the short ones, and where it was found.
 pub fn first_difference(calls: &Calls, seed: u64, cases: u64) -> Option<(String, Difference)> {
     if let (counts, Some(difference)) = region::any_bytes(calls, seed, REGIONS) {
         return Some((format!("region check {}", counts.checks), difference));
     }
-    in_random_sheets(calls, seed, 0, cases.min(FIRST))
+    in_random_sheets(calls, Sort::Any, seed, 0, cases.min(FIRST))
+        .or_else(|| in_random_sheets(calls, Sort::Large, seed, 0, LARGE))
         .or_else(|| in_short_sheets(calls, seed))
-        .or_else(|| in_random_sheets(calls, seed, FIRST, cases))
+        .or_else(|| in_random_sheets(calls, Sort::Any, seed, FIRST, cases))
 }
 
-fn in_random_sheets(calls: &Calls, seed: u64, from: u64, to: u64) -> Option<(String, Difference)> {
-    let (case, difference) = random_cases(calls, seed, from, 1, to).1?;
-    Some((format!("random sheet {case}"), difference))
+fn in_random_sheets(calls: &Calls, sort: Sort, seed: u64, from: u64, to: u64) -> Option<(String, Difference)> {
+    let (case, difference) = random_cases(calls, sort, seed, from, 1, to).1?;
+    Some((format!("{} sheet {case}", sort.name()), difference))
 }
 
 fn in_short_sheets(calls: &Calls, seed: u64) -> Option<(String, Difference)> {

@@ -37,6 +37,14 @@ pub fn readable_image(random: &mut Random, changes: &[usize]) -> Image {
 
 /// An image that is accepted but for rare accidents.
 pub fn image(random: &mut Random) -> Image {
+    image_of(random, directives)
+}
+
+/// Makes directives from the arch, the mask bits and the initialization rows.
+type Directives = fn(&mut Random, u8, &[u64], &[Row]) -> Vec<Row>;
+
+/// The same with these directives.
+pub fn image_of(random: &mut Random, directives: Directives) -> Image {
     let arch = random.below(2) as u8;
     let bits = mask_bits(random);
     let platforms = platforms(random, arch, &bits);
@@ -63,7 +71,7 @@ fn mask_bits(random: &mut Random) -> Vec<u64> {
 }
 
 /// Some of the bits, at least one.
-fn some_bits(random: &mut Random, bits: &[u64]) -> u64 {
+pub fn some_bits(random: &mut Random, bits: &[u64]) -> u64 {
     let first = random.pick(bits);
     bits.iter().fold(first, |mask, bit| if random.one_in(3) { mask | bit } else { mask })
 }
@@ -176,7 +184,7 @@ fn directives(random: &mut Random, arch: u8, bits: &[u64], initializations: &[Ro
 }
 
 /// The rows of all sequences, each in its order.
-fn interleave(random: &mut Random, sequences: Vec<Vec<Row>>) -> Vec<Row> {
+pub fn interleave(random: &mut Random, sequences: Vec<Vec<Row>>) -> Vec<Row> {
     let mut turns: Vec<usize> = sequences.iter().enumerate().flat_map(|(n, rows)| vec![n; rows.len()]).collect();
     random.shuffle(&mut turns);
     let mut rests: Vec<_> = sequences.into_iter().map(Vec::into_iter).collect();
@@ -184,7 +192,7 @@ fn interleave(random: &mut Random, sequences: Vec<Vec<Row>>) -> Vec<Row> {
 }
 
 /// VBS contexts for the regions: for each, one of its VTL that shares a bit.
-fn contexts(random: &mut Random, arch: u8, bits: &[u64], initializations: &[Row]) -> Vec<Vec<Row>> {
+pub fn contexts(random: &mut Random, arch: u8, bits: &[u64], initializations: &[Row]) -> Vec<Vec<Row>> {
     let mut made: Vec<(u64, u64)> = Vec::new();
     for row in initializations {
         let (Some(mask), Some(vtl)) = (row.get("mask"), row.get("vtl")) else { continue };
@@ -230,7 +238,7 @@ fn area_rows(random: &mut Random, bits: &[u64], area: u64, initializations: &[Ro
 }
 
 /// A page for an insert: in no page table that shares a bit, though it may be beside one or in a relocatable region.
-fn insert_place(random: &mut Random, bits: &[u64], initializations: &[Row]) -> (u64, u64) {
+pub fn insert_place(random: &mut Random, bits: &[u64], initializations: &[Row]) -> (u64, u64) {
     let mask = some_bits(random, bits);
     let mut gpa = 0x7000_0000;
     if !initializations.is_empty() && random.one_in(2) {
@@ -247,7 +255,7 @@ fn insert_place(random: &mut Random, bits: &[u64], initializations: &[Row]) -> (
 }
 
 /// A directive that depends on no other row.
-fn free_directive(random: &mut Random, arch: u8, bits: &[u64]) -> Row {
+pub fn free_directive(random: &mut Random, arch: u8, bits: &[u64]) -> Row {
     let mask = some_bits(random, bits);
     let any = random.next() & TOP;
     let gpa = random.pick(&[0, 0x100000, TOP, any]);
@@ -441,7 +449,7 @@ fn change_head(random: &mut Random, image: &mut Image) {
         _ => {
             let counts = [0, 1, 2].map(|list| image.lists[list].len() as u16);
             let mut changed = counts;
-            changed[random.below(3)] = random.pick(&[0, 1, 16, 17, 64, 65, 1024, 1025, 65535, counts[0].wrapping_add(1)]);
+            changed[random.below(3)] = random.pick(&[0, 1, 16, 17, 64, 65, 1024, 1025, 8192, 8193, 65535, counts[0].wrapping_add(1)]);
             image.counts = Some(changed);
         }
     }

@@ -4,6 +4,7 @@ mod adapter;
 mod caught;
 mod compare;
 mod generate;
+mod large;
 mod library;
 mod loader;
 mod memory;
@@ -41,7 +42,7 @@ struct Options {
 }
 
 const USAGE: &str = "compare [PART] [--cases N] [--seed N] [--threads N] [--backend library|paper] [FILE..]
-parts: all (samples, short, random, regions, adapter, order, wrong) or one of these, with the samples' folder; speed; against FOLDER; emit; one HEX; record [--check] FOLDER";
+parts: all (samples, short, random, large, regions, adapter, order, wrong) or one of these, with the samples' folder; speed; against FOLDER; emit; one HEX; record [--check] FOLDER";
 
 fn options() -> Result<Options, String> {
     let mut options = Options {
@@ -111,6 +112,7 @@ fn part(o: &Options) -> Result<(), String> {
         "samples" => samples::replay(&calls, o.rest.first().ok_or(USAGE)?),
         "short" => short_sheets(&calls, o).map(|tally| tally.print()),
         "random" => random_sheets(&calls, o).map(|tally| tally.print()),
+        "large" => large_sheets(&calls, o).map(|tally| tally.print()),
         "regions" => region_bytes(&calls, o),
         "adapter" => adapter::run(&calls, o.seed, o.cases, o.threads),
         "order" => order::run(&calls, o.seed, o.cases, o.threads),
@@ -129,6 +131,7 @@ fn all(calls: &Calls, o: &Options) -> Result<(), String> {
     }
     let mut tally = short_sheets(calls, o)?;
     tally.add(&random_sheets(calls, o)?);
+    tally.add(&large_sheets(calls, o)?);
     tally.print();
     every_refusal(&tally)?;
     region_bytes(calls, o)?;
@@ -163,12 +166,30 @@ fn short_sheets(calls: &Calls, o: &Options) -> Result<Tally, String> {
 }
 
 fn random_sheets(calls: &Calls, o: &Options) -> Result<Tally, String> {
-    let start = Instant::now();
-    let (tally, found) = run::random_threads(calls, o.seed, o.threads, o.cases);
-    if let Some((case, difference)) = found {
-        return Err(report(calls, &format!("random sheet {case} of seed {}", o.seed), difference));
+    sheets_of(calls, o, run::Sort::Any, o.cases)
+}
+
+/// One large sheet for so many others: it takes some 300 times as long.
+const LARGE_SHARE: u64 = 1000;
+
+/// Large sheets, but no fewer than 100. Of those with many areas some must be accepted and some refused by 32.
+fn large_sheets(calls: &Calls, o: &Options) -> Result<Tally, String> {
+    let tally = sheets_of(calls, o, run::Sort::Large, (o.cases / LARGE_SHARE).max(100))?;
+    if tally.areas_verdicts[0] == 0 || tally.areas_verdicts[32] == 0 {
+        return Err("large sheets with many areas: none was accepted, or none refused by 32".into());
     }
-    println!("random sheets: {} agree, seed {}, {:.1?}", tally.cases, o.seed, start.elapsed());
+    Ok(tally)
+}
+
+/// So many random sheets of a sort.
+fn sheets_of(calls: &Calls, o: &Options, sort: run::Sort, cases: u64) -> Result<Tally, String> {
+    let start = Instant::now();
+    let (tally, found) = run::random_threads(calls, sort, o.seed, o.threads, cases);
+    let name = sort.name();
+    if let Some((case, difference)) = found {
+        return Err(report(calls, &format!("{name} sheet {case} of seed {}", o.seed), difference));
+    }
+    println!("{name} sheets: {} agree, seed {}, {:.1?}", tally.cases, o.seed, start.elapsed());
     Ok(tally)
 }
 

@@ -4,8 +4,9 @@ use crate::compare::{plain_alike, Call};
 use crate::random::Random;
 use crate::run::on_threads;
 use crate::sheet::{fields_length, hex, Image, Row};
-use crate::{generate, paper};
+use crate::{generate, large, paper};
 use calls::Calls;
+use std::collections::BTreeMap;
 
 /// A sheet, the same sheet reordered, and for each list where row i of the first stands in the second.
 struct Reordered {
@@ -14,9 +15,14 @@ struct Reordered {
     to: [Vec<usize>; 3],
 }
 
+/// One image of so many is large.
+const LARGE_SHARE: u64 = 500;
+
 #[derive(Default)]
 struct Counts {
     reordered: u64,
+    /// of more than 1,024 directive rows
+    large: u64,
     accepted: u64,
     regions: u64,
     bases: u64,
@@ -29,6 +35,7 @@ struct Counts {
 impl Counts {
     fn add(&mut self, other: &Counts) {
         self.reordered += other.reordered;
+        self.large += other.large;
         self.accepted += other.accepted;
         self.regions += other.regions;
         self.bases += other.bases;
@@ -47,8 +54,8 @@ pub fn run(calls: &Calls, seed: u64, cases: u64, threads: usize) -> Result<(), S
     }
     let c = &counts;
     println!(
-        "order: {} sheets reordered as demand 3 allows, {} of them accepted, agree; {} paired regions, {} bases",
-        c.reordered, c.accepted, c.regions, c.bases
+        "order: {} sheets reordered as demand 3 allows, {} of them accepted, {} of more than 1,024 directive rows, agree; {} paired regions, {} bases",
+        c.reordered, c.accepted, c.large, c.regions, c.bases
     );
     println!("  two platforms of one mask swapped: {} times, the verdict differs {} times", c.platform_swaps, c.platform_swaps_differ);
     println!(
@@ -67,7 +74,11 @@ fn images(calls: &Calls, seed: u64, cases: impl Iterator<Item = u64>) -> Result<
     let mut counts = Counts::default();
     for case in cases {
         let mut random = Random::new(seed ^ 0x6F72_6465_7200, case);
-        let image = generate::readable_image(&mut random, &[0, 0, 0, 1, 2]);
+        let image = match case % LARGE_SHARE {
+            0 => large::readable_image(&mut random),
+            _ => generate::readable_image(&mut random, &[0, 0, 0, 1, 2]),
+        };
+        counts.large += u64::from(image.lists[2].len() > 1024);
         let reordered = reorder(&mut random, image);
         same_answers(calls, &mut random, &reordered, &mut counts).map_err(|what| {
             let [a, b] = [&reordered.a, &reordered.b].map(|image| hex(&image.bytes()));
@@ -94,26 +105,39 @@ fn reorder(random: &mut Random, a: Image) -> Reordered {
     let to = [0, 1, 2].map(|list| {
         let order = allowed_order(random, list, &a.lists[list]);
         b.lists[list] = order.iter().map(|&at| with_other_bytes(random, &a.lists[list][at])).collect();
-        let mut to = vec![0; order.len()];
-        for (place, &at) in order.iter().enumerate() {
-            to[at] = place;
-        }
-        to
+        places_in(&order)
     });
     Reordered { a, b, to }
+}
+
+/// The rows that keep their order among each other, by what ties them.
+fn tied_rows(list: usize, rows: &[Row]) -> BTreeMap<u64, Vec<usize>> {
+    let mut tied: BTreeMap<u64, Vec<usize>> = BTreeMap::new();
+    for (at, row) in rows.iter().enumerate() {
+        if let Some(tie) = tie(list, row) {
+            tied.entry(tie).or_default().push(at);
+        }
+    }
+    tied
+}
+
+/// Where each of these numbers stands among them.
+fn places_in(order: &[usize]) -> Vec<usize> {
+    let mut places = vec![0; order.len()];
+    for (place, &at) in order.iter().enumerate() {
+        places[at] = place;
+    }
+    places
 }
 
 /// A random order of the rows in which tied rows stand as they did: among the places that tied rows got, they are sorted.
 fn allowed_order(random: &mut Random, list: usize, rows: &[Row]) -> Vec<usize> {
     let mut order: Vec<usize> = (0..rows.len()).collect();
     random.shuffle(&mut order);
-    let ties: Vec<Option<u64>> = rows.iter().map(|row| tie(list, row)).collect();
-    for first in 0..rows.len() {
-        if ties[first].is_none() || ties[..first].contains(&ties[first]) {
-            continue;
-        }
-        let places: Vec<usize> = (0..order.len()).filter(|&place| ties[order[place]] == ties[first]).collect();
-        let tied = (0..rows.len()).filter(|&at| ties[at] == ties[first]);
+    let place_of = places_in(&order);
+    for tied in tied_rows(list, rows).into_values() {
+        let mut places: Vec<usize> = tied.iter().map(|&at| place_of[at]).collect();
+        places.sort_unstable();
         for (place, at) in places.into_iter().zip(tied) {
             order[place] = at;
         }
@@ -256,17 +280,27 @@ fn bases(random: &mut Random, row: &Row) -> [u64; 5] {
 
 // ---- what demand 3 does not allow
 
+/// Two of these rows that differ, of which there are some.
+fn two_that_differ(random: &mut Random, rows: &[Row], among: &[usize]) -> (usize, usize) {
+    loop {
+        let (i, j) = (random.pick(among), random.pick(among));
+        if rows[i] != rows[j] {
+            return (i, j);
+        }
+    }
+}
+
 /// Swaps two platforms of one mask, and two directives of one area, where there are such, and counts how often the verdict differs.
 fn swapped(calls: &Calls, random: &mut Random, image: &Image, counts: &mut Counts) -> Result<(), String> {
     for list in [0, 2] {
         let rows = &image.lists[list];
-        let tied = |i: usize, j: usize| tie(list, &rows[i]).is_some() && tie(list, &rows[i]) == tie(list, &rows[j]);
-        let pairs: Vec<(usize, usize)> =
-            (0..rows.len()).flat_map(|i| (0..i).map(move |j| (j, i))).filter(|&(j, i)| tied(j, i) && rows[i] != rows[j]).collect();
-        if pairs.is_empty() {
+        let differ = |tied: &Vec<usize>| tied.iter().any(|&at| rows[at] != rows[tied[0]]);
+        let groups: Vec<Vec<usize>> = tied_rows(list, rows).into_values().filter(differ).collect();
+        if groups.is_empty() {
             continue;
         }
-        let (i, j) = random.pick(&pairs);
+        let group = random.below(groups.len());
+        let (i, j) = two_that_differ(random, rows, &groups[group]);
         let mut other = image.clone();
         other.lists[list].swap(i, j);
         let (one, other) = (image.bytes(), other.bytes());

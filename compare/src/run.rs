@@ -3,7 +3,7 @@
 use crate::compare::{check, Call, Difference, Extent, Rust};
 use crate::random::Random;
 use crate::tally::Tally;
-use crate::{generate, plan, short};
+use crate::{generate, large, plan, short};
 use calls::Calls;
 
 /// The comparison of one sheet after another, with its counts.
@@ -17,11 +17,11 @@ impl<'a> Run<'a> {
         Run { calls, tally: Tally::default() }
     }
 
-    /// The verdict, then queries: one of a refused sheet; of an accepted one some, or all once in 256 times.
+    /// The verdict, then queries: one of a refused sheet; of an accepted one some, or all once in 256 times if it is not large.
     pub fn sheet(&mut self, random: &mut Random, sheet: &[u8]) -> Result<(), Difference> {
         let rust = Rust::of(sheet);
         let queries = match self.verdict(sheet, &rust, random.next())? {
-            0 if random.one_in(256) => plan::all(sheet),
+            0 if random.one_in(256) && !large::is_large(sheet) => plan::all(sheet),
             0 => plan::some(random, sheet),
             _ => vec![plan::one(random)],
         };
@@ -31,7 +31,7 @@ impl<'a> Run<'a> {
     /// The verdict on a sheet. Gives its number.
     pub fn verdict(&mut self, sheet: &[u8], rust: &Rust, case: u64) -> Result<u64, Difference> {
         let number = check(self.calls, sheet, rust, Call::Verdict, Extent::Case(case))?.number;
-        self.count(rust, number);
+        self.count(sheet, rust, number);
         Ok(number)
     }
 
@@ -62,9 +62,13 @@ impl<'a> Run<'a> {
         ended
     }
 
-    fn count(&mut self, rust: &Rust, number: u64) {
+    fn count(&mut self, sheet: &[u8], rust: &Rust, number: u64) {
         self.tally.cases += 1;
         self.tally.verdicts[number as usize] += 1;
+        if large::is_large(sheet) && !(1..=6).contains(&number) {
+            self.tally.large_verdicts[number as usize] += 1;
+            self.tally.areas_verdicts[number as usize] += u64::from(large::has_many_areas(sheet));
+        }
         if let Some(judged) = &rust.judged {
             self.tally.with_rust += 1;
             self.tally.rust_verdicts[number as usize] += 1;
@@ -73,12 +77,37 @@ impl<'a> Run<'a> {
     }
 }
 
-/// Random sheets: cases `from`, `from + step`, .. below `to`. Stops at the first difference.
-pub fn random_cases(calls: &Calls, seed: u64, from: u64, step: usize, to: u64) -> (Tally, Option<(u64, Difference)>) {
+/// What random sheets are of.
+#[derive(Clone, Copy, PartialEq, Eq)]
+pub enum Sort {
+    /// images of few rows, but for rare ones
+    Any,
+    /// images of more than 1,024 directive rows
+    Large,
+}
+
+impl Sort {
+    pub fn name(self) -> &'static str {
+        match self {
+            Sort::Any => "random",
+            Sort::Large => "large",
+        }
+    }
+
+    fn sheet(self, random: &mut Random) -> Vec<u8> {
+        match self {
+            Sort::Any => generate::sheet(random),
+            Sort::Large => large::sheet(random),
+        }
+    }
+}
+
+/// Random sheets of a sort: cases `from`, `from + step`, .. below `to`. Stops at the first difference.
+pub fn random_cases(calls: &Calls, sort: Sort, seed: u64, from: u64, step: usize, to: u64) -> (Tally, Option<(u64, Difference)>) {
     let mut run = Run::new(calls);
     for case in (from..to).step_by(step) {
         let mut random = Random::new(seed, case);
-        let sheet = generate::sheet(&mut random);
+        let sheet = sort.sheet(&mut random);
         if let Err(difference) = run.sheet(&mut random, &sheet) {
             return (run.tally, Some((case, difference)));
         }
@@ -96,8 +125,8 @@ pub fn on_threads<T: Send>(threads: usize, work: impl Fn(u64) -> T + Sync) -> Ve
 }
 
 /// The same on several threads. Gives the difference of the lowest case.
-pub fn random_threads(calls: &Calls, seed: u64, threads: usize, to: u64) -> (Tally, Option<(u64, Difference)>) {
-    let results = on_threads(threads, |thread| random_cases(calls, seed, thread, threads, to));
+pub fn random_threads(calls: &Calls, sort: Sort, seed: u64, threads: usize, to: u64) -> (Tally, Option<(u64, Difference)>) {
+    let results = on_threads(threads, |thread| random_cases(calls, sort, seed, thread, threads, to));
     let mut tally = Tally::default();
     let mut first: Option<(u64, Difference)> = None;
     for (part, difference) in results {

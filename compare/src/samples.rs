@@ -4,7 +4,7 @@ use crate::compare::{check, Call, Extent, Rust};
 use crate::library::LIBRARY;
 use crate::random::Random;
 use crate::sheet::hex;
-use crate::{generate, line, paper, plain, plan};
+use crate::{generate, large, line, paper, plain, plan};
 use calls::Calls;
 use std::fs;
 use std::path::Path;
@@ -32,10 +32,11 @@ pub fn replay(calls: &Calls, folder: &str) -> Result<(), String> {
     Ok(())
 }
 
-/// Random sheets in hexadecimal digits, each with its line, for a comparison outside this program.
+/// Random sheets in hexadecimal digits, each with its line, for a comparison outside this program; one large sheet for 500 others.
 pub fn emit(seed: u64, cases: u64) -> Result<(), String> {
-    for case in 0..cases {
-        let sheet = generate::sheet(&mut Random::new(seed, case));
+    let sheets = (0..cases).map(|case| generate::sheet(&mut Random::new(seed, case)));
+    let large = (0..cases / 500).map(|case| large::sheet(&mut Random::new(seed, case)));
+    for sheet in sheets.chain(large) {
         println!("{} {}", hex(&sheet), line(&paper::CALLS, &sheet));
     }
     Ok(())

@@ -82,7 +82,7 @@ fn heads(each: Each) -> bool {
         &[0, 1, 4095, 4096, 4097, 8192, 0xFFFF_FFFF],
         &[0, 1, 16, 17],
         &[0, 1, 64, 65],
-        &[0, 1, 1024, 1025],
+        &[0, 1, 1025, 8192, 8193],
         &[0, 1, 0x8000],
     ];
     product(&sets, &mut |v| {
@@ -355,20 +355,41 @@ fn body_lengths(kind: u32, each: Each) -> bool {
 
 // ---- the limits
 
-/// Lists of the greatest length and one row more, sheets of the greatest length and one byte more.
+/// Lists of the greatest length and one row more, sheets of the greatest length and one byte more; and the same about the lengths that were the greatest before,
+/// 1,024 directive rows and 16,777,216 bytes.
 fn limits(each: Each) -> bool {
     let regions = |count: u64| (0..count).map(|n| region(1, 0x2000 * n, 0x2000)).collect::<Vec<_>>();
     let with = |p: usize, i: u64, d: usize| Image::new(0, [vec![native(); p], regions(i), vec![vbs(0, 1, 0); d]]);
-    let named = |areas: u64| (0..areas).flat_map(|area| [Row::new(33, &[0, area]), Row::new(50, &[0, 1, area])]).collect::<Vec<_>>();
-    let of_areas = |areas: u64| Image::new(0, [vec![native()], vec![], named(areas)]);
-    let rows = [with(1, 64, 1024), with(1, 65, 1), with(1, 1, 1025), with(16, 1, 1), with(17, 1, 1), with(1, 64, 1)];
-    rows.iter().all(|image| each(&image.bytes()))
-        && [of_areas(511), of_areas(512)].iter().all(|image| each(&image.bytes()))
-        && [16_777_215, 16_777_216, 16_777_217].into_iter().all(|length| {
-            let mut image = with(1, 2, 2);
+    let rows = [with(1, 65, 1), with(16, 1, 1), with(17, 1, 1), with(1, 64, 1)];
+    let directives = [1024, 1025, 8191, 8192, 8193].map(|count| with(1, 64, count));
+    rows.iter().chain(&directives).all(|image| each(&image.bytes()))
+        && limits_of_areas(each)
+        && [16_777_216, 16_777_217, 67_108_863, 67_108_864, 67_108_865].into_iter().all(|length| {
+            let mut image = with(1, 2, 1);
+            image.lists[2].push(Row::new(52, &[1]));
             let missing = length - image.bytes().len();
-            image.lists[2][1].body.resize(5 + missing, 0);
+            image.lists[2][1].body.resize(4 + missing, 0);
             each(&image.bytes()) && each(&vec![0; length])
+        })
+}
+
+/// As many areas as fit into 1,024 rows and into 8,192, each inserted behind its allocation. Then areas with indexes spread over 32 bits: as many as the library's
+/// small table has room for, one less, one more, and one in each row; behind them or in the last row each of the first and the last is allocated again, or
+/// used, or used behind its insert.
+fn limits_of_areas(each: Each) -> bool {
+    let inserted = |areas: u64| (0..areas).flat_map(|area| [Row::new(33, &[0, area]), Row::new(50, &[0, 1, area])]).collect::<Vec<_>>();
+    let mut of = |directives: Vec<Row>| each(&Image::new(0, [vec![native()], vec![], directives]).bytes());
+    let spread = |n: u64| n * 0x9E37_79B1 & 0xFFFF_FFFF;
+    [511, 512, 4095, 4096].into_iter().all(|areas| of(inserted(areas)))
+        && [1023, 1024, 1025, 1026, 8189, 8192].into_iter().all(|areas| {
+            let allocated: Vec<Row> = (1..=areas).map(|n| Row::new(33, &[0x1000, spread(n)])).collect();
+            let of_area = |n: u64| {
+                let (index, insert) = (spread(n), Row::new(50, &[0, 1, spread(n)]));
+                let a_use = || Row::new(34, &[index, 0]);
+                [vec![a_use()], vec![Row::new(33, &[0x1000, index])], vec![insert.clone(), a_use()], vec![a_use(), insert.clone(), insert]]
+            };
+            let behind = [1, areas, areas + 1].into_iter().flat_map(of_area);
+            of(allocated.clone()) && behind.into_iter().all(|behind| of([&allocated[..], &behind].concat()))
         })
 }
 

@@ -13,6 +13,10 @@ pub struct Tally {
     pub verdicts: Histogram,
     /// the same, of the sheets on the Rust's domain
     pub rust_verdicts: Histogram,
+    /// the same, of the readable sheets of more than 1,024 directive rows
+    pub large_verdicts: Histogram,
+    /// the same, of those that allocate more areas than the library's small table has room for
+    pub areas_verdicts: Histogram,
     /// queries by number
     pub queries: Histogram,
     /// regions of lists and of checks that were checked by their words too
@@ -23,7 +27,18 @@ pub struct Tally {
 
 impl Default for Tally {
     fn default() -> Self {
-        Tally { cases: 0, with_rust: 0, verdicts: [0; 38], rust_verdicts: [0; 38], queries: [0; 38], regions: 0, names_other_kind: 0 }
+        let none = [0; 38];
+        Tally {
+            cases: 0,
+            with_rust: 0,
+            verdicts: none,
+            rust_verdicts: none,
+            large_verdicts: none,
+            areas_verdicts: none,
+            queries: none,
+            regions: 0,
+            names_other_kind: 0,
+        }
     }
 }
 
@@ -36,6 +51,8 @@ impl Tally {
         for number in 0..38 {
             self.verdicts[number] += other.verdicts[number];
             self.rust_verdicts[number] += other.rust_verdicts[number];
+            self.large_verdicts[number] += other.large_verdicts[number];
+            self.areas_verdicts[number] += other.areas_verdicts[number];
             self.queries[number] += other.queries[number];
         }
     }
@@ -53,10 +70,12 @@ impl Tally {
 
     pub fn print(&self) {
         println!("{} sheets, {} of them compared with the Rust too", self.cases, self.with_rust);
-        println!("{:>6} {:>12} {:>12} {:>12}", "number", "verdicts", "by the Rust", "queries");
+        let [large, areas] = [self.large_verdicts, self.areas_verdicts].map(|verdicts| verdicts.iter().sum::<u64>());
+        println!("{large} readable ones have more than 1,024 directive rows, {areas} of them more than 1,024 areas of 1,024 and above");
+        println!("{:>6} {:>12} {:>12} {:>12} {:>12} {:>12}", "number", "verdicts", "by the Rust", "1,025 rows", "1,025 areas", "queries");
         for number in 0..38 {
-            let [all, rust, queries] = [self.verdicts[number], self.rust_verdicts[number], self.queries[number]];
-            println!("{number:>6} {all:>12} {rust:>12} {queries:>12}");
+            let all = [&self.verdicts, &self.rust_verdicts, &self.large_verdicts, &self.areas_verdicts, &self.queries];
+            println!("{number:>6} {}", all.map(|counts| format!("{:>12}", counts[number])).join(" "));
         }
         println!("{} regions were checked by their words too", self.regions);
         println!("the Rust named X64VbsVpContext for a row of kind 46: {} times", self.names_other_kind);
