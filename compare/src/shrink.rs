@@ -1,4 +1,5 @@
-//! The smallest sheet near a given one on which two answers still differ: rows dropped, opaque bytes cut, fields set to 0.
+//! The smallest sheet near a given one on which two answers still differ: rows dropped, opaque bytes cut, fields set to 0. Of a large sheet only many rows or
+//! all data at once are left out: each look at it takes long.
 
 use crate::compare::{check, Call, Difference, Extent, Rust};
 use crate::sheet::{fields, fields_length, hex, Image};
@@ -31,18 +32,31 @@ fn smaller(calls: &Calls, from: &Difference) -> Option<Difference> {
 enum Edit {
     NoLeftOver,
     PlainHead,
-    FirstHalf(usize),
-    SecondHalf(usize),
-    Drop(usize, usize),
+    NoData,
+    /// from a list, rows from the first place up to, not including, the second
+    Drop(usize, usize, usize),
     Body(usize, usize, usize),
     Field(usize, usize, &'static str, u64),
 }
 
+/// The rows and the bytes of an image from which on it is large.
+const ROWS: usize = 400;
+const BYTES: usize = 1 << 20;
+
+/// The parts of a large image's list that are left out one by one, at the finest.
+const PARTS: usize = 16;
+
 fn edits(image: &Image) -> Vec<Edit> {
-    let mut edits = vec![Edit::NoLeftOver, Edit::PlainHead];
+    let is_large = image.rows().count() >= ROWS || image.rows().map(|row| row.body.len()).sum::<usize>() >= BYTES;
+    let mut edits = vec![Edit::NoLeftOver, Edit::PlainHead, Edit::NoData];
     for (list, rows) in image.lists.iter().enumerate() {
-        edits.extend([Edit::FirstHalf(list), Edit::SecondHalf(list)]);
-        edits.extend((0..rows.len()).map(|at| Edit::Drop(list, at)));
+        edits.extend(parts(rows.len(), if is_large { PARTS } else { 2 }).map(|(from, to)| Edit::Drop(list, from, to)));
+    }
+    if is_large {
+        return edits;
+    }
+    for (list, rows) in image.lists.iter().enumerate() {
+        edits.extend((0..rows.len()).map(|at| Edit::Drop(list, at, at + 1)));
     }
     for (list, rows) in image.lists.iter().enumerate() {
         for (at, row) in rows.iter().enumerate() {
@@ -57,15 +71,20 @@ fn edits(image: &Image) -> Vec<Edit> {
     edits
 }
 
+/// The halves of so many rows, their quarters, and so on up to this many parts, none of them smaller than a row.
+fn parts(rows: usize, most: usize) -> impl Iterator<Item = (usize, usize)> {
+    let sizes = [2, 4, 8, PARTS].into_iter().filter(move |&parts| parts == 2 || parts <= most.min(rows));
+    sizes.flat_map(move |parts| (0..parts).map(move |part| (rows * part / parts, rows * (part + 1) / parts)))
+}
+
 /// The bytes of the image after a step; a body does not grow.
 fn edited(image: &Image, edit: &Edit) -> Vec<u8> {
     let mut image = image.clone();
     match *edit {
         Edit::NoLeftOver => image.left_over.clear(),
         Edit::PlainHead => (image.revision, image.arch, image.page_size) = (1, 0, 0),
-        Edit::FirstHalf(list) => image.lists[list].truncate(image.lists[list].len() / 2),
-        Edit::SecondHalf(list) => drop(image.lists[list].drain(..image.lists[list].len() / 2)),
-        Edit::Drop(list, at) => drop(image.lists[list].remove(at)),
+        Edit::NoData => image.lists.iter_mut().flatten().for_each(|row| row.body.truncate(fields_length(row.kind))),
+        Edit::Drop(list, from, to) => drop(image.lists[list].drain(from..to)),
         Edit::Body(list, at, length) => image.lists[list][at].body.truncate(length),
         Edit::Field(list, at, name, value) => image.lists[list][at].set(name, value),
     }
