@@ -1,10 +1,11 @@
 //! A sample of answers for a replay without the Rust: `data/calls` and `stdout` of the program crates/replay.
 //! Every answer is the Rust's, or document 01's where the Rust has none; the library is not asked.
+//! Among them are few sheets of more than 1,024 directive rows, made for what they show.
 
 use crate::compare::{answer, to_lend, Answer, Call, Rust};
 use crate::random::Random;
 use crate::sheet::hex;
-use crate::{caught, generate, paper, plan, region, shrink};
+use crate::{caught, generate, large, paper, plan, region, shrink};
 use calls::Calls;
 use std::collections::BTreeMap;
 use std::fs;
@@ -31,14 +32,15 @@ struct Case {
 pub fn run(seed: u64, folder: &str, check: bool) -> Result<(), String> {
     let mut cases = sample(seed)?;
     cases.extend(region_bytes(seed)?);
-    let too_large = catch_wrong_copies(seed, &mut cases)?;
+    cases.extend(large_sheets()?);
+    catch_wrong_copies(seed, &mut cases)?;
     cases.sort_by_key(|case| (case.number(), case.code()));
     every_refusal(&cases)?;
     let calls: Vec<u8> = cases.iter().flat_map(Case::bytes).collect();
     let lines: String = cases.iter().map(Case::line).collect();
     let by_rust = cases.iter().filter(|case| case.answer.by_rust).count();
     println!("record: {} cases of {} bytes, {by_rust} of them answered by the Rust", cases.len(), calls.len());
-    println!("  they catch every wrong copy but {JUST_ENOUGH} and {too_large:?}, which need larger sheets");
+    println!("  they catch every wrong copy but {}", NOT_CAUGHT.join(", "));
     for (name, bytes) in [("data/calls", calls), ("stdout", lines.into_bytes())] {
         let path = Path::new(folder).join(name);
         let failed = |error: std::io::Error| format!("{}: {error}", path.display());
@@ -77,29 +79,48 @@ fn region_bytes(seed: u64) -> Result<Vec<Case>, String> {
     cases.into_iter().collect()
 }
 
-/// The wrong copy that differs only where just as many bytes are lent as the numbers take, which the replay does not do.
-const JUST_ENOUGH: &str = "numbers-word-more";
+/// The verdict on sheets of many directive rows, and the queries of one of them.
+fn large_sheets() -> Result<Vec<Case>, String> {
+    let queries = [
+        Call::Relocations { mask: 1, lent: 64 },
+        Call::BaseValid { mask: 1, region: 0, base: 0x3000 },
+        Call::Contains { mask: 1, region: 0, gpa: 0x1800 },
+    ];
+    let mut cases = Vec::new();
+    for (image, number) in large::stored() {
+        let sheet = image.bytes();
+        let case = Case::new(&sheet, &Rust::of(&sheet), Call::Verdict)?;
+        if case.number() != number {
+            return Err(format!("record: a sheet of {} directive rows gets {}", image.lists[2].len(), case.number()));
+        }
+        cases.push(case);
+    }
+    let sheet = large::areas_and_region().bytes();
+    for query in queries {
+        cases.push(Case::new(&sheet, &Rust::of(&sheet), query)?);
+    }
+    Ok(cases)
+}
 
-/// Adds the smallest case for each wrong copy that the cases do not catch. Gives the names of those whose smallest sheet is too large.
-fn catch_wrong_copies(seed: u64, cases: &mut Vec<Case>) -> Result<Vec<&'static str>, String> {
-    let mut too_large = Vec::new();
+/// The wrong copies that the sample does not catch: three differ only on sheets of more bytes than it holds, one only where just as many bytes are lent as the
+/// numbers take, which the replay does not do.
+const NOT_CAUGHT: [&str; 4] = ["byte-limit", "bytes-16777216", "bytes-67108865", "numbers-word-more"];
+
+/// Adds the smallest case for each other wrong copy that the cases do not catch.
+fn catch_wrong_copies(seed: u64, cases: &mut Vec<Case>) -> Result<(), String> {
     for (name, _, calls) in wrong::WRONG {
-        if *name == JUST_ENOUGH || cases.iter().any(|case| case.differs(calls)) {
+        if NOT_CAUGHT.contains(name) || cases.iter().any(|case| case.differs(calls)) {
             continue;
         }
         let (_, difference) = caught::first_difference(calls, seed, SHEETS).ok_or(format!("record: {name} is not caught"))?;
         let smallest = shrink::smallest(calls, difference);
-        if smallest.sheet.len() > LARGE {
-            too_large.push(*name);
-            continue;
-        }
         let case = Case::new(&smallest.sheet, &Rust::of(&smallest.sheet), smallest.call)?;
-        if !case.differs(calls) {
-            return Err(format!("record: no case for {name}"));
+        if smallest.sheet.len() > LARGE || !case.differs(calls) {
+            return Err(format!("record: no case for {name} on a sheet of at most {LARGE} bytes"));
         }
         cases.push(case);
     }
-    Ok(too_large)
+    Ok(())
 }
 
 fn every_refusal(cases: &[Case]) -> Result<(), String> {

@@ -177,7 +177,7 @@ fn replay(s: &[u8]) {
 }
 
 fn main() {
-    let mut space = [0u8; 524288];
+    let mut space = [0u8; 1048576];
     let n = stored_calls::read_file(&mut space);
     replay(&space[..n]);
 }
