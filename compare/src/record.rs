@@ -1,4 +1,4 @@
-//! A sample of answers for a replay without the Rust: `data/calls` and `stdout` of the program crates/replay.
+//! A sample of answers for a replay without the Rust: `args`, `data/calls-1` and so on, and `stdout` of the program crates/replay.
 //! Every answer is the Rust's, or document 01's where the Rust has none; the library is not asked.
 //! Among them are few sheets of more than 1,024 directive rows, made for what they show.
 
@@ -20,6 +20,8 @@ const LARGE: usize = 9000;
 const LEAST: usize = 3;
 /// Random bytes in a region's place.
 const REGIONS: u64 = 8;
+/// How many bytes of a file the replay has room for.
+const FILE: usize = 524_288;
 
 /// One call on one sheet, with its answer.
 struct Case {
@@ -36,12 +38,15 @@ pub fn run(seed: u64, folder: &str, check: bool) -> Result<(), String> {
     catch_wrong_copies(seed, &mut cases)?;
     cases.sort_by_key(|case| (case.number(), case.code()));
     every_refusal(&cases)?;
-    let calls: Vec<u8> = cases.iter().flat_map(Case::bytes).collect();
+    let files = files(&cases);
     let lines: String = cases.iter().map(Case::line).collect();
     let by_rust = cases.iter().filter(|case| case.answer.by_rust).count();
-    println!("record: {} cases of {} bytes, {by_rust} of them answered by the Rust", cases.len(), calls.len());
+    let bytes: usize = files.iter().map(|(_, calls)| calls.len()).sum();
+    println!("record: {} cases of {bytes} bytes in {} files, {by_rust} of them answered by the Rust", cases.len(), files.len());
     println!("  they catch every wrong copy but {}", NOT_CAUGHT.join(", "));
-    for (name, bytes) in [("data/calls", calls), ("stdout", lines.into_bytes())] {
+    let names: String = files.iter().map(|(name, _)| format!("{name}\n")).collect();
+    let texts = [("args".to_string(), names.into_bytes()), ("stdout".to_string(), lines.into_bytes())];
+    for (name, bytes) in files.into_iter().map(|(name, calls)| (format!("data/{name}"), calls)).chain(texts) {
         let path = Path::new(folder).join(name);
         let failed = |error: std::io::Error| format!("{}: {error}", path.display());
         if !check {
@@ -51,6 +56,18 @@ pub fn run(seed: u64, folder: &str, check: bool) -> Result<(), String> {
         }
     }
     Ok(())
+}
+
+/// The bytes of the cases, in files that the replay has room for, each with its name.
+fn files(cases: &[Case]) -> Vec<(String, Vec<u8>)> {
+    let mut files: Vec<Vec<u8>> = vec![Vec::new()];
+    for bytes in cases.iter().map(Case::bytes) {
+        if files.last().unwrap().len() + bytes.len() > FILE {
+            files.push(Vec::new());
+        }
+        files.last_mut().unwrap().extend(bytes);
+    }
+    files.into_iter().enumerate().map(|(index, calls)| (format!("calls-{}", index + 1), calls)).collect()
 }
 
 /// Cases of each sort, from random sheets.

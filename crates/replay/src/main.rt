@@ -176,8 +176,18 @@ fn replay(s: &[u8]) {
     }
 }
 
-fn main() {
-    let mut space = [0u8; 1048576];
-    let n = stored_calls::read_file(&mut space);
+// The calls of the file that argument i names, of at most 524,288 bytes.
+fn replay_argument(i: usize) {
+    let mut space = [0u8; 524288];
+    let n = stored_calls::read_file(i, &mut space);
     replay(&space[..n]);
+}
+
+fn main() {
+    let n = os::arg_count();
+    let mut i = 1;
+    while i < n {
+        replay_argument(i);
+        i += 1;
+    }
 }

@@ -144,12 +144,12 @@ pub fn record_length(s: &[u8], at: usize) -> usize
     0
 }
 
-// Reads the file that the first argument names: how many bytes it has, at most those of `space`.
-pub fn read_file(space: &mut [u8]) -> usize
+// Reads the file that argument i names: how many bytes it has, at most those of `space`.
+pub fn read_file(i: usize, space: &mut [u8]) -> usize
     ensures { λ r. ⌜ Counts r (now (space .exit)) ⌝ }
 {
     let mut name = io::buffer();
-    let n = os::arg(1, &mut name);
+    let n = os::arg(i, &mut name);
     let fd = os::open_read(&name[..n]);
     if fd < 0 {
         write(b"the file can't be opened\n");
