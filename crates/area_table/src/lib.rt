@@ -12,19 +12,19 @@ ghost use Rattle.area_table.specs.AreaTable.{root, placeOf, stateAt, sta
 pub const FEW: usize = 1024;
 
 // The areas that a tiny table has nodes for, and a small one. A large one has a node for each directive row that a sheet may have.
-pub const TINY: usize = 64;
+pub const TINY: usize = 256;
 
 pub const SMALL: usize = 1024;
 
 // The nodes of each. They are numbered from 1 on; node 0 is none.
-pub const TINY_NODES: usize = 65;
+pub const TINY_NODES: usize = 257;
 
 pub const SMALL_NODES: usize = 1025;
 
 pub const LARGE_NODES: usize = 8193;
 
 // The places for nodes of each: 1,024 roots, then two children for each node.
-pub const TINY_LINKS: usize = 1154;
+pub const TINY_LINKS: usize = 1538;
 
 pub const SMALL_LINKS: usize = 3074;
 
