@@ -154,7 +154,7 @@ fn past_named<'a>(
 
 // The rows from the first that names an area on, where they are few: a tiny table takes less time to clear. The slices are taken again: so they are stored where
 // they are passed on, and not before.
-fn past_few_areas<'a>(
+fn past_few_rows<'a>(
     s: &'a [u8],
     from: Cursor,
     end: usize,
@@ -212,7 +212,7 @@ fn past_areas<'a>(
     ensures { λ r. ⌜ DirectivesAccepted (now (s .entry)) r (now (contexts .exit)) × (length (now (contexts .exit)) ≡ 3) ⌝ }
 {
     if end - from.row <= area_table::TINY {
-        return past_few_areas(s, from, end, x64, masks, gpas, sizes, tables, n, contexts);
+        return past_few_rows(s, from, end, x64, masks, gpas, sizes, tables, n, contexts);
     }
     let mut few: [u8; area_table::FEW] = [0; area_table::FEW];
     let mut links: [u16; area_table::SMALL_LINKS] = [0; area_table::SMALL_LINKS];
