@@ -3,13 +3,27 @@ ghost use mathlib.Core.Path.{_≡_};
 ghost use Prim.Native.Nat.{_+_};
 ghost use lib.Dec.{leb, ltb};
 ghost use Rattle.addresses.specs.Addresses.{isMultiple, onPage, contains, meets, endsBeyond, baseValid};
+ghost use Rattle.addresses.specs.Powers.{isPowerOfTwo};
 
-// x is a multiple of a; of 0 only 0 is.
+// One less has none of the bits of a. 0 is no power of two.
+pub fn is_power_of_two(a: u64) -> bool
+    ensures { λ r. ⌜ r ≡ isPowerOfTwo a ⌝ }
+{
+    if a == 0 {
+        return false;
+    }
+    a & (a - 1) == 0
+}
+
+// x is a multiple of a; of 0 only 0 is. Of a power of two the low bits tell, with no division.
 pub fn is_multiple(x: u64, a: u64) -> bool
     ensures { λ r. ⌜ r ≡ isMultiple x a ⌝ }
 {
     if a == 0 {
         return x == 0;
+    }
+    if is_power_of_two(a) {
+        return x & (a - 1) == 0;
     }
     x % a == 0
 }

@@ -1,0 +1,2 @@
+pub mod PowerExamples
+pub mod PowerLaws
