@@ -27,7 +27,7 @@ use rules::Region;
 use sheet::SheetHead;
 
 // 17, 18, 19 and 20 (gpa, minimum, maximum): a relocatable region alone.
-pub fn validate_region(alignment: u64, gpa: u64, size: u64, minimum: u64, maximum: u64) -> Fault
+fn validate_region(alignment: u64, gpa: u64, size: u64, minimum: u64, maximum: u64) -> Fault
     ensures { λ r. ⌜ r ≡ validateRegion alignment gpa size minimum maximum ⌝ }
 {
     Fault::NONE
@@ -40,7 +40,7 @@ pub fn validate_region(alignment: u64, gpa: u64, size: u64, minimum: u64, maximu
 }
 
 // 21, 22 (size, used size) and 23: a page table region alone.
-pub fn validate_table(gpa: u64, size: u64, used: u64) -> Fault
+fn validate_table(gpa: u64, size: u64, used: u64) -> Fault
     ensures { λ r. ⌜ r ≡ validateTable gpa size used ⌝ }
 {
     Fault::NONE

@@ -4,9 +4,11 @@ ghost use mathlib.Core.Bool.{true, false, not, _&&_};
 ghost use lib.Dec.{eqb};
 ghost use Rattle.rows.specs.Rows.{Rows};
 ghost use Rattle.igvm_defs.specs.declared.Arch.{Arch};
+ghost use Rattle.igvm_defs.specs.Refusals.{isFault};
 ghost use Rattle.igvm_defs.specs.Revision.{isX64};
 ghost use Rattle.addresses.specs.Addresses.{endsBeyond};
 ghost use Rattle.platform_header.specs.declared.IgvmPlatformHeader.{IgvmPlatformHeader};
+ghost use Rattle.rules.specs.Initializations.{validateRegion, validateTable};
 ghost use Rattle.rules.specs.declared.Region.{Region};
 ghost use Rattle.platform_accept.specs.Accepted.{HoldsCca};
 ghost use Rattle.initialization_row.specs.Row.{InOrder};
@@ -49,6 +51,18 @@ fn policy_row(b: &[u8], x64: bool, cca: u32) -> bool
         & masks::matches(le::u32_at(b, 0), cca)
 }
 
+// None of 17 to 20.
+fn region_ok(alignment: u64, gpa: u64, size: u64, minimum: u64, maximum: u64) -> bool
+    ensures { λ r. ⌜ r ≡ not (isFault (validateRegion alignment gpa size minimum maximum)) ⌝ }
+{
+    addresses::on_page(size)
+        & addresses::on_page(alignment)
+        & (alignment != 0)
+        & addresses::is_multiple(gpa, alignment)
+        & addresses::is_multiple(minimum, alignment)
+        & addresses::is_multiple(maximum, alignment)
+}
+
 // A relocatable region.
 fn region_row(b: &[u8]) -> RowFound
     ensures { λ r. ⌜ ((arch : Arch) (ps : Rows IgvmPlatformHeader) → r .ok ≡ true → InOrder arch ps 18 (now (b .entry)) (r .found) (r .region)) ⌝ }
@@ -64,7 +78,7 @@ fn region_row(b: &[u8]) -> RowFound
         vtl: b[47],
         page_table: false,
     };
-    let own = initialization_check::validate_region(
+    let own = region_ok(
         le::u64_at(b, 4),
         region.gpa,
         region.size,
@@ -72,10 +86,17 @@ fn region_row(b: &[u8]) -> RowFound
         le::u64_at(b, 36),
     );
     RowFound {
-        ok: (b[47] <= 2) & (b[44] <= 7) & !own.is_fault() & has_room(region),
+        ok: (b[47] <= 2) & (b[44] <= 7) & own & has_room(region),
         found: true,
         region,
     }
+}
+
+// None of 21 to 23.
+fn table_ok(gpa: u64, size: u64, used: u64) -> bool
+    ensures { λ r. ⌜ r ≡ not (isFault (validateTable gpa size used)) ⌝ }
+{
+    addresses::on_page(gpa) & addresses::on_page(size) & addresses::on_page(used) & !(size < used)
 }
 
 // A page table region.
@@ -93,9 +114,9 @@ fn table_row(b: &[u8]) -> RowFound
         vtl: b[30],
         page_table: true,
     };
-    let own = initialization_check::validate_table(region.gpa, region.size, le::u64_at(b, 20));
+    let own = table_ok(region.gpa, region.size, le::u64_at(b, 20));
     RowFound {
-        ok: (b[30] <= 2) & !own.is_fault() & has_room(region),
+        ok: (b[30] <= 2) & own & has_room(region),
         found: true,
         region,
     }
