@@ -51,8 +51,7 @@ fn accept_directives<'a>(
             accepted: false,
         };
     }
-    // The slices are taken again: so they are stored where they are passed on, and not before.
-    let lacks = contexts::any_lacks(&masks[..], &vps[..], &vtls[..], n, contexts);
+    let lacks = contexts::any_lacks(masks, vps, vtls, n, contexts);
     Reached {
         at,
         count: n,
