@@ -94,11 +94,18 @@ fn cca_bits(platforms: &[Row]) -> Vec<u64> {
     platforms.iter().map(of).filter(|p| p.1 == 6 && last(p.0) == 6).map(|p| p.0).collect()
 }
 
-/// Where the next region may stand, and the bits that have no page table yet.
+/// Where the next region may stand, the bits that have no page table yet, masks and places of the relocatable regions, and the ends of all.
 struct Layout {
     next: u64,
     free: Vec<u64>,
     placed: Vec<(u64, u64)>,
+    taken: Vec<(u64, u64)>,
+}
+
+impl Layout {
+    fn new(random: &mut Random, bits: &[u64]) -> Layout {
+        Layout { next: starting_place(random), free: bits.to_vec(), placed: Vec::new(), taken: Vec::new() }
+    }
 }
 
 fn starting_place(random: &mut Random) -> u64 {
@@ -107,7 +114,7 @@ fn starting_place(random: &mut Random) -> u64 {
 
 fn initializations(random: &mut Random, arch: u8, bits: &[u64], platforms: &[Row]) -> Vec<Row> {
     let count = if random.one_in(300) { random.below(65) } else { random.pick(&[0, 1, 1, 2, 2, 3, 4, 5, 6]) };
-    let mut layout = Layout { next: starting_place(random), free: bits.to_vec(), placed: Vec::new() };
+    let mut layout = Layout::new(random, bits);
     let cca = cca_bits(platforms);
     let mut rows: Vec<Row> = (0..count).map(|_| initialization(random, arch, bits, &cca, &mut layout)).collect();
     if random.one_in(2) {
@@ -129,17 +136,39 @@ fn initialization(random: &mut Random, arch: u8, bits: &[u64], cca: &[u64], layo
     }
 }
 
-/// A place for a region of either kind: gpa and size, clear of the earlier ones.
+/// An alignment of a region: mostly a small one, else any power of two, a number about one, three or five times one, or the highest page.
+pub fn alignment(random: &mut Random) -> u64 {
+    let power = 1u64 << (13 + random.below(51));
+    match random.below(16) {
+        0 => random.pick(&[0x5000, 0x6000, 0x7000, 0x20_0000, 1 << 30, 1 << 32, TOP]),
+        1 => random.pick(&[1 << 52, 1 << 62, 1 << 63, 1 << 63]),
+        2 => random.pick(&[power, power + 0x1000, power - 0x1000]),
+        3 => random.pick(&[3u64, 5]).checked_mul(power).unwrap_or(power),
+        _ => random.pick(&[0x1000, 0x1000, 0x1000, 0x2000, 0x3000, 0x10000]),
+    }
+}
+
+/// The multiple of a number that is not 0, at or below another.
+fn multiple(number: u64, of: u64) -> u64 {
+    number / of * of
+}
+
+/// A place for a region of either kind: gpa and size, clear of the earlier ones where some multiple of the alignment is.
 fn place(random: &mut Random, alignment: u64, layout: &mut Layout) -> (u64, u64) {
     let size = 0x1000 * (1 + random.below(3) as u64);
-    let gpa = layout.next.div_ceil(alignment).saturating_mul(alignment);
-    let gpa = gpa.min((TOP - size) / alignment * alignment);
-    layout.next = (gpa + size).saturating_add(0x1000 * random.pick(&[0, 0, 1, 2]));
+    let highest = multiple(TOP - size, alignment);
+    let clear = |gpa: &u64| layout.taken.iter().all(|&(start, end)| gpa + size <= start || end <= *gpa);
+    let next = layout.next.checked_next_multiple_of(alignment).unwrap_or(highest).min(highest);
+    let gpa = [next, 0, alignment.min(highest), highest].into_iter().find(clear).unwrap_or(highest);
+    if gpa == next {
+        layout.next = (gpa + size).saturating_add(0x1000 * random.pick(&[0, 0, 1, 2]));
+    }
+    layout.taken.push((gpa, gpa + size));
     (gpa, size)
 }
 
 fn region(random: &mut Random, bits: &[u64], layout: &mut Layout) -> Row {
-    let alignment = random.pick(&[0x1000, 0x1000, 0x1000, 0x2000, 0x3000, 0x10000]);
+    let alignment = alignment(random);
     let mut mask = some_bits(random, bits);
     let (mut gpa, mut size) = place(random, alignment, layout);
     if let Some(&(other_mask, other_gpa)) = layout.placed.last() {
@@ -148,16 +177,17 @@ fn region(random: &mut Random, bits: &[u64], layout: &mut Layout) -> Row {
         }
     }
     layout.placed.push((mask, gpa));
-    let minimum = random.pick(&[0, gpa, gpa.saturating_sub(2 * alignment), gpa + alignment]) / alignment * alignment;
-    let end = (gpa + size).div_ceil(alignment).saturating_mul(alignment);
-    let maximum = random.pick(&[end, TOP / alignment * alignment, end.saturating_add(4 * alignment), 0]) / alignment * alignment;
+    let [below, above] = [gpa.saturating_sub(alignment.saturating_mul(2)), gpa.saturating_add(alignment)];
+    let minimum = multiple(random.pick(&[0, gpa, below, above]), alignment);
+    let end = (gpa + size).checked_next_multiple_of(alignment).unwrap_or(TOP);
+    let maximum = multiple(random.pick(&[end, TOP, end.saturating_add(alignment.saturating_mul(4)), 0]), alignment);
     let vtl = random.pick(&[0, 0, 1, 2]);
     Row::new(18, &[mask, alignment, gpa, size, minimum, maximum, random.below(8) as u64, 0, vtl])
 }
 
 /// The words of a region as `region` makes them.
 pub fn region_words(random: &mut Random) -> [u64; 8] {
-    let mut layout = Layout { next: starting_place(random), free: Vec::new(), placed: Vec::new() };
+    let mut layout = Layout::new(random, &[]);
     let row = region(random, &[1], &mut layout);
     ["gpa", "size", "alignment", "minimum", "maximum", "flags", "vp", "vtl"].map(|name| row.get(name).unwrap())
 }
@@ -279,8 +309,9 @@ pub fn free_directive(random: &mut Random, arch: u8, bits: &[u64]) -> Row {
 // ---- changes of an image
 
 pub fn change(random: &mut Random, image: &mut Image) {
-    match random.below(20) {
+    match random.below(21) {
         0..=6 => change_field(random, image),
+        20 => misalign(random, image),
         7 | 8 => relate_regions(random, image),
         9 => relate_insert(random, image),
         10 => swap_rows(random, image),
@@ -323,6 +354,34 @@ fn change_field(random: &mut Random, image: &mut Image) {
         _ => value_elsewhere(random, image, name).unwrap_or(now),
     };
     image.lists[list][at].set(name, value);
+}
+
+/// A region's gpa, minimum or maximum gets a number about a multiple of its alignment.
+fn misalign(random: &mut Random, image: &mut Image) {
+    let regions: Vec<usize> = (0..image.lists[1].len()).filter(|&at| image.lists[1][at].kind == 18).collect();
+    if regions.is_empty() {
+        return change_field(random, image);
+    }
+    let row = &mut image.lists[1][random.pick(&regions)];
+    let name = random.pick(&["gpa", "minimum", "maximum"]);
+    if let (Some(alignment), Some(now)) = (row.get("alignment"), row.get(name)) {
+        row.set(name, near_multiple(random, alignment, now));
+    }
+}
+
+/// A number about this multiple of an alignment: one bit below the alignment's highest is another, or it is half an alignment, a page or one further on or
+/// back, or it has no bit of the alignment less one, as the multiples of a power of two. Also another multiple, and the multiple itself.
+pub fn near_multiple(random: &mut Random, alignment: u64, multiple: u64) -> u64 {
+    let low_bits = alignment.wrapping_sub(1);
+    match random.below(8) {
+        0 | 1 => multiple ^ 1 << random.below(alignment.checked_ilog2().unwrap_or(0).max(1) as usize),
+        2 => multiple.wrapping_add(random.pick(&[0x1000, 0u64.wrapping_sub(0x1000), 1, u64::MAX])),
+        3 => multiple.wrapping_add(alignment / 2),
+        4 => random.next() & TOP & !low_bits,
+        5 => low_bits.wrapping_add(1) & !low_bits,
+        6 => random.next().checked_div(alignment).unwrap_or(0).wrapping_mul(alignment),
+        _ => multiple,
+    }
 }
 
 /// The number in the field of this name in some row, or in any field of some row.
