@@ -1,6 +1,7 @@
 //! One sheet, one call, three answers: of the calls under test, of document 01 in Rust, and, on its domain, of the Rust itself.
 //! To the verdict there is a fourth, of plain.rs. region.rs has the checks by a region's words.
 
+use crate::alignments::Alignments;
 use crate::{paper, plain, region};
 use calls::Calls;
 use oracle::{Headers, Judged, Relocated};
@@ -252,16 +253,17 @@ pub struct Difference {
     pub between: Between,
 }
 
-/// What a comparison has seen: the refusal's number, and how many regions were checked by their words too.
+/// What a comparison has seen: the refusal's number, how many regions were checked by their words too, and the alignments of those checked at a base.
 pub struct Agreed {
     pub number: u64,
     pub regions: u64,
+    pub alignments: Alignments,
 }
 
 /// The answers to one call, compared: every number, one by one and all at once, every lent byte, and the bytes on either side; and what is said of a region by its words.
 pub fn check(calls: &Calls, sheet: &[u8], rust: &Rust, call: Call, extent: Extent) -> Result<Agreed, Difference> {
     if call.is_by_words() {
-        return region::check(calls, sheet, call).map(|_| Agreed { number: 0, regions: 1 });
+        return region::check(calls, sheet, call).map(|_| Agreed { number: 0, regions: 1, alignments: Alignments::default() });
     }
     let differ = |between: Between, what: String| Difference { sheet: sheet.to_vec(), call, what, between };
     let mut paper_bytes = fresh(call.lent());
@@ -284,11 +286,12 @@ pub fn check(calls: &Calls, sheet: &[u8], rust: &Rust, call: Call, extent: Exten
         }
     }
     all_numbers_alike(calls, sheet, call, (&by_paper, &paper_bytes), extent).map_err(|what| differ(Between::Paper, what))?;
+    let mut alignments = Alignments::default();
     let regions = match by_paper[0] {
-        0 => region::alike(calls, sheet, rust, call, (by_paper[3], lent_part(&mut paper_bytes)), extent)?,
+        0 => region::alike(calls, sheet, rust, call, (by_paper[3], lent_part(&mut paper_bytes)), (extent, &mut alignments))?,
         _ => 0,
     };
-    Ok(Agreed { number: by_paper[0], regions })
+    Ok(Agreed { number: by_paper[0], regions, alignments })
 }
 
 /// The sibling puts all numbers where they have room, fills the same words and gives number 0.

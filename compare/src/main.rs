@@ -1,6 +1,7 @@
 //! Compares the calls of the library with the Rust of crate igvm 0.5.0 and with document 01. README.md says how to run it.
 
 mod adapter;
+mod alignments;
 mod caught;
 mod compare;
 mod generate;
@@ -130,7 +131,12 @@ fn all(calls: &Calls, o: &Options) -> Result<(), String> {
         samples::replay(calls, folder)?;
     }
     let mut tally = short_sheets(calls, o)?;
-    tally.add(&random_sheets(calls, o)?);
+    every_alignment("short", &tally)?;
+    let random = random_sheets(calls, o)?;
+    if o.cases >= ENOUGH {
+        every_alignment("random", &random)?;
+    }
+    tally.add(&random);
     tally.add(&large_sheets(calls, o)?);
     tally.print();
     every_refusal(&tally)?;
@@ -147,6 +153,19 @@ fn every_refusal(tally: &Tally) -> Result<(), String> {
         return Err(format!("refusals that were not met: {missing:?}, with the Rust: {missing_with_rust:?}"));
     }
     println!("every refusal from 1 to 37 was met, and every one of the Rust's domain with the Rust");
+    Ok(())
+}
+
+/// Random sheets among which every answer for each sort of alignments must be.
+const ENOUGH: u64 = 100_000;
+
+/// Every answer for each sort of alignments was met.
+fn every_alignment(sort: &str, tally: &Tally) -> Result<(), String> {
+    let missing = tally.alignments.missing();
+    if !missing.is_empty() {
+        return Err(format!("{sort} sheets: of alignments these were not met: {missing:?}"));
+    }
+    println!("{sort} sheets: every answer for each sort of alignments was met");
     Ok(())
 }
 

@@ -40,7 +40,8 @@ fn lent_lengths(count: usize) -> [usize; 9] {
     [0, 7, 8, 63, 64, (64 * count).saturating_sub(1), 64 * count, 64 * count + 5, 64 * count + 64]
 }
 
-/// Bases about the ends of what is valid, and of what is below 2^64.
+/// Bases about the ends of what is valid, and of what is below 2^64; half the alignment; and such as differ from a multiple in one bit, or have none of the
+/// bits of the alignment less one.
 pub fn bases(region: Option<&[u64; 8]>) -> Vec<u64> {
     let Some(&[gpa, size, alignment, minimum, maximum, ..]) = region else { return vec![0, u64::MAX] };
     let last = maximum.wrapping_sub(size);
@@ -50,6 +51,9 @@ pub fn bases(region: Option<&[u64; 8]>) -> Vec<u64> {
         bases.extend([near.wrapping_sub(alignment), near.wrapping_add(alignment), near.wrapping_sub(1), near.wrapping_add(1)]);
     }
     bases.extend([last, sum_ends, u64::MAX].map(|near| near - near.checked_rem(alignment).unwrap_or(0)));
+    let (highest_bit, low_bits) = (alignment.checked_ilog2().map_or(0, |place| 1 << place), alignment.wrapping_sub(1));
+    bases.extend([alignment / 2, gpa ^ highest_bit, gpa ^ highest_bit / 2, minimum ^ highest_bit / 2]);
+    bases.extend([low_bits.wrapping_add(1) & !low_bits, last & !low_bits]);
     bases
 }
 

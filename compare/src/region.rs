@@ -1,6 +1,7 @@
 //! The checks by a region's eight words alone. On any bytes they are held against document 01 and the Rust; of a sheet's regions also against the checks
 //! by the sheet.
 
+use crate::alignments::{self, Alignments};
 use crate::compare::{Between, Call, Difference, Extent, Rust};
 use crate::random::Random;
 use crate::{generate, paper, plan, short};
@@ -42,16 +43,30 @@ pub fn check(calls: &Calls, region: &[u8], call: Call) -> Result<u64, Difference
     Ok(answer)
 }
 
+/// Counts the alignment of a region that was checked at a base.
+fn count_base(met: &mut Alignments, region: &[u8], call: Call, answer: u64) {
+    if let (Call::RegionBaseValid { base }, Some(words)) = (call, words(region)) {
+        met.base(&words, base, answer);
+    }
+}
+
 // ---- the regions of a sheet
 
 /// Of an accepted answer: every region of a list at a base and an address, or the region of a check. `found` is how many regions the list has, and their
-/// words. Gives how many regions were checked.
-pub fn alike(calls: &Calls, sheet: &[u8], rust: &Rust, call: Call, found: (u64, &[u8]), extent: Extent) -> Result<u64, Difference> {
+/// words. Gives how many regions were checked, and counts the alignments of those checked at a base.
+pub fn alike(
+    calls: &Calls,
+    sheet: &[u8],
+    rust: &Rust,
+    call: Call,
+    found: (u64, &[u8]),
+    (extent, met): (Extent, &mut Alignments),
+) -> Result<u64, Difference> {
     match call {
         Call::Relocations { mask, .. } => {
             for (region, bytes) in (0..found.0).zip(found.1.chunks_exact(64)) {
                 for call in places(mask, region, bytes, extent) {
-                    same(calls, sheet, rust, call, bytes)?;
+                    same(calls, sheet, rust, call, bytes, met)?;
                 }
             }
             Ok(found.0)
@@ -59,7 +74,7 @@ pub fn alike(calls: &Calls, sheet: &[u8], rust: &Rust, call: Call, found: (u64, 
         Call::BaseValid { mask, region, .. } | Call::Contains { mask, region, .. } => {
             let mut lent = [0; 64 * 64];
             (calls.relocations)(sheet, mask, &mut lent, 0);
-            same(calls, sheet, rust, call, &lent[64 * region as usize..][..64])?;
+            same(calls, sheet, rust, call, &lent[64 * region as usize..][..64], met)?;
             Ok(1)
         }
         Call::Verdict | Call::RegionBaseValid { .. } | Call::RegionContains { .. } => Ok(0),
@@ -75,8 +90,9 @@ fn places(mask: u32, region: u64, bytes: &[u8], extent: Extent) -> [Call; 2] {
 }
 
 /// A check by the region's words says what it says by the sheet, and what the Rust says of its own region.
-fn same(calls: &Calls, sheet: &[u8], rust: &Rust, call: Call, region: &[u8]) -> Result<(), Difference> {
+fn same(calls: &Calls, sheet: &[u8], rust: &Rust, call: Call, region: &[u8], met: &mut Alignments) -> Result<(), Difference> {
     let answer = check(calls, region, call.by_words())?;
+    count_base(met, region, call.by_words(), answer);
     let differ = |between: Between, what: String| Difference { sheet: sheet.to_vec(), call, what, between };
     let by_rust = rust.answer(call, &mut []).map_err(|message| differ(Between::Rust, message))?.map(|numbers| numbers[3]);
     let by_sheet = Some(call.ask(calls, sheet, &mut [], 3));
@@ -99,6 +115,7 @@ pub struct Counts {
     valid: [u64; 2],
     /// addresses that are not contained, and those that are
     contained: [u64; 2],
+    alignments: Alignments,
 }
 
 impl Counts {
@@ -108,15 +125,20 @@ impl Counts {
         self.with_rust += u64::from(by_rust(region, call).is_some());
         let counted = if let Call::RegionBaseValid { .. } = call { &mut self.valid } else { &mut self.contained };
         counted[answer as usize] += 1;
+        count_base(&mut self.alignments, region, call, answer);
         Ok(())
     }
 
-    /// What was seen, if both checks gave both answers, and the Rust some.
+    /// What was seen, if both checks gave both answers, the base check for each sort of alignments, and the Rust some.
     pub fn seen(&self) -> Result<String, String> {
-        let Counts { checks, with_rust, valid, contained } = self;
-        let text =
-            format!("{checks}, {with_rust} of them with the Rust too; {} bases valid, {} addresses contained", valid[1], contained[1]);
-        if [[*with_rust, 1], *valid, *contained].as_flattened().contains(&0) {
+        let Counts { checks, with_rust, valid, contained, alignments } = self;
+        let text = format!(
+            "{checks}, {with_rust} of them with the Rust too; {} bases valid, {} addresses contained; bases valid and no multiple of alignments {}",
+            valid[1],
+            contained[1],
+            alignments.bases()
+        );
+        if [[*with_rust, 1], *valid, *contained].as_flattened().contains(&0) || !alignments.missing_bases().is_empty() {
             return Err(format!("region checks: some answer was not met: {text}"));
         }
         Ok(text)
@@ -132,7 +154,7 @@ pub fn any_bytes(calls: &Calls, seed: u64, cases: u64) -> (Counts, Option<Differ
         ended = both.into_iter().try_for_each(|call| counts.check(calls, region, call));
         ended.is_ok()
     };
-    if every_length(&mut each) && small_words(&mut each) {
+    if every_length(&mut each) && small_words(&mut each) && every_alignment(&mut each) {
         (0..cases).all(|case| random_bytes(&mut Random::new(seed ^ 0x7265_6769_6F6E, case), &mut each));
     }
     (counts, ended.err())
@@ -161,13 +183,48 @@ fn small_words(each: Each) -> bool {
     })
 }
 
+/// Every alignment about a power of two, with every base about its multiples, without and with a page below 2^64.
+fn every_alignment(each: Each) -> bool {
+    alignments::every().into_iter().all(|alignment| {
+        alignments::addresses(alignment).into_iter().all(|base| {
+            [0, 0x1000].into_iter().all(|size| {
+                let words = [0, size, alignment, 0, u64::MAX, 0, 0, 0];
+                each(&words.map(u64::to_le_bytes).concat(), base, base)
+            })
+        })
+    })
+}
+
+/// A number of any length in bits.
+fn any_number(random: &mut Random) -> u64 {
+    random.next() >> random.below(64)
+}
+
+/// A region with any alignment, mostly about a power of two, that may lie nearly anywhere.
+fn aligned_words(random: &mut Random) -> [u64; 8] {
+    let (power, any, lowest, end) = (1u64 << random.below(64), any_number(random), any_number(random), random.next());
+    let near = random.pick(&[power, power, power - 1, power.wrapping_add(1), power.wrapping_mul(3), power.wrapping_mul(5)]);
+    let alignment = random.pick(&[near, near, near | 1, near & generate::TOP, near.wrapping_add(0x1000), any]);
+    let size = random.pick(&[0, 1, 0x1000, 0x3000]);
+    let minimum = random.pick(&[0, 0, 1, alignment, lowest]);
+    let maximum = random.pick(&[u64::MAX, u64::MAX, generate::TOP, end]);
+    [random.next(), size, alignment, minimum, maximum, 0, 0, 0]
+}
+
+/// A multiple of an alignment.
+fn any_multiple(random: &mut Random, alignment: u64) -> u64 {
+    let number = any_number(random);
+    number - number.checked_rem(alignment).unwrap_or(number)
+}
+
 /// Words of one sort or of a region, some with alignment 0 or a byte changed, some cut or with bytes behind them.
 pub fn random_bytes(random: &mut Random, each: Each) -> bool {
-    let mut words: [u64; 8] = match random.below(6) {
+    let mut words: [u64; 8] = match random.below(8) {
         0 => std::array::from_fn(|_| random.next()),
         1 => std::array::from_fn(|_| random.below(5) as u64),
         2 => std::array::from_fn(|_| u64::MAX - random.below(5) as u64),
         3 => std::array::from_fn(|_| 0x1000 * random.below(9) as u64),
+        4 | 5 => aligned_words(random),
         _ => generate::region_words(random),
     };
     if random.one_in(8) {
@@ -179,7 +236,8 @@ pub fn random_bytes(random: &mut Random, each: Each) -> bool {
         bytes[random.below(64)] = random.next() as u8;
     }
     bytes.truncate(if random.one_in(4) { random.below(81) } else { 64 });
-    let words = Some(&words);
-    let (base, gpa) = (random.pick(&plan::bases(words)), random.pick(&plan::addresses(words)));
+    let (multiple, known) = (any_multiple(random, words[2]), random.pick(&plan::bases(Some(&words))));
+    let base = if random.one_in(3) { generate::near_multiple(random, words[2], multiple) } else { known };
+    let gpa = random.pick(&plan::addresses(Some(&words)));
     each(&bytes, base, gpa)
 }

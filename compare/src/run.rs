@@ -32,6 +32,9 @@ impl<'a> Run<'a> {
     pub fn verdict(&mut self, sheet: &[u8], rust: &Rust, case: u64) -> Result<u64, Difference> {
         let number = check(self.calls, sheet, rust, Call::Verdict, Extent::Case(case))?.number;
         self.count(sheet, rust, number);
+        if matches!(number, 0 | 20) {
+            self.tally.alignments.verdict(sheet, number, Call::Verdict.ask(self.calls, sheet, &mut [], 1));
+        }
         Ok(number)
     }
 
@@ -41,6 +44,7 @@ impl<'a> Run<'a> {
             let agreed = check(self.calls, sheet, rust, query, Extent::Case(case.wrapping_add(turn)))?;
             self.tally.queries[agreed.number as usize] += 1;
             self.tally.regions += agreed.regions;
+            self.tally.alignments.add(&agreed.alignments);
         }
         Ok(())
     }
@@ -54,7 +58,7 @@ impl<'a> Run<'a> {
         });
         ended?;
         let mut ended = Ok(());
-        short::every_base(&mut |sheet, queries| {
+        short::every_query(&mut |sheet, queries| {
             let (rust, case) = (Rust::of(sheet), self.tally.cases);
             ended = self.verdict(sheet, &rust, case).and_then(|_| self.queries(sheet, &rust, queries, case));
             ended.is_ok()

@@ -1,5 +1,6 @@
 //! Short sheets, all of them of each sort: strings of few bytes, heads, one row with small fields, two and three regions, sequences of areas.
 
+use crate::alignments;
 use crate::compare::Call;
 use crate::generate::TOP;
 use crate::sheet::{fields, fields_length, is_open, kinds, list_of, Image, Row};
@@ -395,8 +396,32 @@ fn limits_of_areas(each: Each) -> bool {
 
 // ---- queries
 
+/// Every sheet that is asked of with the queries given.
+pub fn every_query(each: &mut dyn FnMut(&[u8], &[Call]) -> bool) -> bool {
+    every_base(each) && every_alignment(each)
+}
+
+/// Every alignment about a power of two: each of gpa, minimum and maximum at every address about its multiples, the others at a multiple; and every such base.
+fn every_alignment(each: &mut dyn FnMut(&[u8], &[Call]) -> bool) -> bool {
+    alignments::every().into_iter().all(|alignment| {
+        let highest = TOP - TOP.checked_rem(alignment).unwrap_or(0);
+        let region = Row::new(18, &[1, alignment, 0, 0x1000, 0, highest, 0, 0, 0]);
+        let of = |region: Row| Image::new(0, [vec![native()], vec![region], vec![vbs(0, 1, 0)]]).bytes();
+        let addresses = alignments::addresses(alignment);
+        let bases: Vec<Call> = addresses.iter().map(|&base| Call::BaseValid { mask: 1, region: 0, base }).collect();
+        each(&of(region.clone()), &bases)
+            && ["gpa", "minimum", "maximum"].into_iter().all(|name| {
+                addresses.iter().all(|&address| {
+                    let mut changed = region.clone();
+                    changed.set(name, address);
+                    each(&of(changed), &[])
+                })
+            })
+    })
+}
+
 /// Two small regions with every alignment, size, minimum and maximum of few pages, each with every base and address of few pages.
-pub fn every_base(each: &mut dyn FnMut(&[u8], &[Call]) -> bool) -> bool {
+fn every_base(each: &mut dyn FnMut(&[u8], &[Call]) -> bool) -> bool {
     let (alignments, pages): (&[u64], &[u64]) = (&[0x1000, 0x2000, 0x3000], &[0, 1, 2, 3, 4, 6]);
     let places: Vec<u64> = (0..17).map(|n| 0x800 * n).chain([u64::MAX, TOP, TOP - 0x1000]).collect();
     let lengths = [0, 7, 8, 56, 63, 64, 65, 71, 72, 127, 128, 135];

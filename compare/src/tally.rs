@@ -1,5 +1,7 @@
 //! What a run has compared, counted.
 
+use crate::alignments::Alignments;
+
 /// Counts by refusal: 0 for accepted or answered, then 1 to 37.
 pub type Histogram = [u64; 38];
 
@@ -21,6 +23,8 @@ pub struct Tally {
     pub queries: Histogram,
     /// regions of lists and of checks that were checked by their words too
     pub regions: u64,
+    /// alignments of regions, with the verdicts and the base checks
+    pub alignments: Alignments,
     /// rows of kind 46 for which the Rust's error names X64VbsVpContext
     pub names_other_kind: u64,
 }
@@ -37,6 +41,7 @@ impl Default for Tally {
             areas_verdicts: none,
             queries: none,
             regions: 0,
+            alignments: Alignments::default(),
             names_other_kind: 0,
         }
     }
@@ -47,6 +52,7 @@ impl Tally {
         self.cases += other.cases;
         self.with_rust += other.with_rust;
         self.regions += other.regions;
+        self.alignments.add(&other.alignments);
         self.names_other_kind += other.names_other_kind;
         for number in 0..38 {
             self.verdicts[number] += other.verdicts[number];
@@ -78,6 +84,7 @@ impl Tally {
             println!("{number:>6} {}", all.map(|counts| format!("{:>12}", counts[number])).join(" "));
         }
         println!("{} regions were checked by their words too", self.regions);
+        self.alignments.print();
         println!("the Rust named X64VbsVpContext for a row of kind 46: {} times", self.names_other_kind);
     }
 }
