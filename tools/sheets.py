@@ -345,7 +345,17 @@ refused("20-minimum-first", 2, 2, "minimum 2, maximum 3", B.initializations(regi
 refused("20-alignment", 2, 0x101000, "alignment 0x2000, gpa 0x101000", B.initializations(region(alignment=0x2000, gpa=0x101000)))
 refused("20-3000", 2, 0x100000, "alignment 0x3000, gpa 0x100000", B.initializations(region(alignment=0x3000, maximum=0x300000)))
 accepted("alignment-3000", "1 1 1", "alignment 0x3000, no power of two", B.initializations(region(alignment=0x3000, gpa=0x300000, maximum=0x600000)))
+accepted("alignment-3000-bits", "1 1 1", "alignment 0x3000; gpa, minimum and maximum are multiples that have bits of 0x2FFF",
+         B.initializations(region(alignment=0x3000, gpa=0x303000, minimum=0x6000, maximum=0x606000)))
+accepted("alignment-5000", "1 1 1", "alignment 0x5000, no power of two", B.initializations(region(alignment=0x5000, gpa=0x500000, maximum=0xA00000)))
+refused("20-3000-gpa", 2, 0x1000, "alignment 0x3000, gpa 0x1000, which has no bit of 0x2FFF", B.initializations(region(alignment=0x3000, gpa=0x1000, maximum=0x300000)))
+refused("20-3000-minimum", 2, 0x10000, "alignment 0x3000, minimum 0x10000, which has no bit of 0x2FFF",
+        B.initializations(region(alignment=0x3000, gpa=0x300000, minimum=0x10000, maximum=0x600000)))
+refused("20-3000-maximum", 2, 0x400000, "alignment 0x3000, maximum 0x400000, which has no bit of 0x2FFF",
+        B.initializations(region(alignment=0x3000, gpa=0x300000, maximum=0x400000)))
 accepted("alignment-large", "1 1 1", "alignment 2^63, gpa 0", B.initializations(region(alignment=2**63, gpa=0, maximum=2**63)))
+refused("20-large", 2, 2**62, "alignment 2^63, gpa 2^62", B.initializations(region(alignment=2**63, gpa=2**62, maximum=2**63)))
+refused("20-large-maximum", 2, 2**62, "alignment 2^63, maximum 2^62", B.initializations(region(alignment=2**63, gpa=0, maximum=2**62)))
 accepted("minimum-above", "1 1 1", "minimum above maximum", B.initializations(region(minimum=0x201000)))
 refused("20-before-27", 2, 0x100800, "gpa 0x100800, size 0", B.initializations(region(gpa=0x100800, size=0)))
 refused("20-before-28", 2, 2**64 - 0x800, "gpa 2^64 - 0x800", B.initializations(region(gpa=2**64 - 0x800)))
