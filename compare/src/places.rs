@@ -26,6 +26,8 @@ struct Placed {
     relocations: unsafe extern "C" fn(*const u8, usize, u32, *mut u8, usize, u32) -> u64,
     /// an older build may not have it
     verdict_numbers: Option<unsafe extern "C" fn(*const u8, usize, *mut u8, usize) -> u64>,
+    /// nor this
+    region_base_valid: Option<unsafe extern "C" fn(*const u8, usize, u64) -> u64>,
 }
 
 impl Placed {
@@ -45,10 +47,12 @@ impl Placed {
                 return Err(format!("{path} does not have the calls"));
             }
             let verdict_numbers = dlsym(handle, c"igvm_verdict_numbers".as_ptr());
+            let region_base_valid = dlsym(handle, c"igvm_region_base_valid".as_ptr());
             Ok(Placed {
                 verdict: std::mem::transmute(verdict),
                 relocations: std::mem::transmute(relocations),
                 verdict_numbers: std::mem::transmute(verdict_numbers),
+                region_base_valid: std::mem::transmute(region_base_valid),
             })
         }
     }
@@ -57,6 +61,7 @@ impl Placed {
     fn has(&self, case: &Case) -> bool {
         match case.question {
             Question::Numbers => self.verdict_numbers.is_some(),
+            Question::Bases(_) => self.region_base_valid.is_some(),
             Question::Loader => false,
             Question::Accepted | Question::Refused(_) | Question::Relocations => true,
         }
@@ -68,21 +73,25 @@ impl Placed {
         match case.question {
             Question::Relocations => unsafe { (self.relocations)(sheet.as_ptr(), sheet.len(), 1, lent.as_mut_ptr(), lent.len(), 0) },
             Question::Numbers => unsafe { self.verdict_numbers.expect("the call")(sheet.as_ptr(), sheet.len(), lent.as_mut_ptr(), 48) },
+            Question::Bases(_) => {
+                let valid = self.region_base_valid.expect("the call");
+                case.valid_bases(|region, base| unsafe { valid(region.as_ptr(), region.len(), base) })
+            }
             _ => unsafe { (self.verdict)(sheet.as_ptr(), sheet.len(), 0) },
         }
     }
 
     /// It answers as the case says. A build of other limits may refuse the image.
     fn answers(&self, case: &Case) -> bool {
-        self.ask(case, &mut [0; 64 * 64]) == case.number()
+        self.ask(case, &mut [0; 64 * 64]) == case.answer()
     }
 
     /// Nanoseconds of a call, after one that is not measured.
     fn nanoseconds(&self, case: &Case, times: usize) -> f64 {
         let mut lent = [0; 64 * 64];
         self.ask(case, &mut lent);
-        let number = case.number();
-        time(vec![(); times], |()| assert_eq!(self.ask(case, &mut lent), number)).as_nanos() as f64 / times as f64
+        let answer = case.answer();
+        case.nanoseconds(time(vec![(); times], |()| assert_eq!(self.ask(case, &mut lent), answer)), times)
     }
 }
 
@@ -126,26 +135,27 @@ impl Best {
                     }
                 }
                 for (least, side) in best.peers.iter_mut().zip(PEERS) {
-                    *least = least.map(|least| least.min(case.peer(side, times).as_nanos() as f64 / times as f64));
+                    *least = least.map(|least| least.min(case.nanoseconds(case.peer(side, times), times)));
                 }
             });
         }
         best
     }
 
-    fn line(&self, name: &str) -> String {
+    fn line(&self, case: &Case) -> String {
+        let (name, digits) = (&case.name, case.digits());
         let mean = |least: &Option<Vec<f64>>| least.as_ref().map(|least| least.iter().sum::<f64>() / least.len() as f64);
         let (other, library) = (mean(&self.builds[0]), mean(&self.builds[1]));
         let column = |number: Option<f64>, width: usize, digits: usize| {
             number.map_or(format!("{:>width$}", "-"), |number| format!("{number:>width$.digits$}"))
         };
         let ratio = |other: Option<f64>| library.zip(other).map(|(library, other)| library / other);
-        let mut line = format!("{name:<24}{}{}{}", column(other, 9, 0), column(library, 9, 0), column(ratio(other), 8, 3));
+        let mut line = format!("{name:<24}{}{}{}", column(other, 9, digits), column(library, 9, digits), column(ratio(other), 8, 3));
         for &peer in &self.peers {
-            line += &(column(peer, 9, 0) + &column(ratio(peer), 8, 2));
+            line += &(column(peer, 9, digits) + &column(ratio(peer), 8, 2));
         }
         let each = |least: &Option<Vec<f64>>| {
-            (0..PLACES.len()).map(|place| column(least.as_ref().map(|least| least[place]), 7, 0)).collect::<String>()
+            (0..PLACES.len()).map(|place| column(least.as_ref().map(|least| least[place]), 7, digits)).collect::<String>()
         };
         line + "  " + &self.builds.iter().map(each).collect::<Vec<String>>().join("  ")
     }
@@ -162,7 +172,7 @@ pub fn run(folder: &str, settings: &Settings) -> Result<(), String> {
         if !builds[1][0].answers(case) {
             return Err(format!("{}: the library answers otherwise", case.name));
         }
-        println!("{}", Best::new(case, &builds, settings.rounds).line(&case.name));
+        println!("{}", Best::new(case, &builds, settings.rounds).line(case));
     }
     Ok(())
 }

@@ -4,7 +4,7 @@
 use crate::alignments::{self, Alignments};
 use crate::compare::{Between, Call, Difference, Extent, Rust};
 use crate::random::Random;
-use crate::{generate, paper, plan, short};
+use crate::{generate, paper, plain, plan, short};
 use calls::Calls;
 use oracle::Relocated;
 
@@ -34,10 +34,16 @@ pub fn by_rust(region: &[u8], call: Call) -> Option<u64> {
 pub fn check(calls: &Calls, region: &[u8], call: Call) -> Result<u64, Difference> {
     let answer = call.ask(calls, region, &mut [], 0);
     let by_paper = call.ask(&paper::CALLS, region, &mut [], 0);
+    let differ = |between: Between, what: String| Difference { sheet: region.to_vec(), call, what, between };
     for (other, between, who) in [(by_rust(region, call), Between::Rust, "the Rust"), (Some(by_paper), Between::Paper, "document 01")] {
         if let Some(other) = other.filter(|&other| other != answer) {
-            let what = format!("the answer is {answer}; {who} says {other}");
-            return Err(Difference { sheet: region.to_vec(), call, what, between });
+            return Err(differ(between, format!("the answer is {answer}; {who} says {other}")));
+        }
+    }
+    if let Call::RegionBaseValid { base } = call {
+        let by_plain = plain::region_base_valid(region, base);
+        if by_plain != by_paper {
+            return Err(differ(Between::Plain, format!("plain Rust says {by_plain}; document 01 says {by_paper}")));
         }
     }
     Ok(answer)

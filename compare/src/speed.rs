@@ -1,11 +1,12 @@
 //! The time of the calls, of plain.rs and of the Rust, on the same images and in one run. README.md says what is measured.
 
+use crate::generate::TOP;
 use crate::memory::Sheet;
 use crate::sheet::{Image, Row};
 use crate::short::{native, page_table, region, vbs};
 use crate::{loader, paper, plain};
 use calls::Calls;
-use oracle::{Headers, IgvmFile};
+use oracle::{Headers, IgvmFile, Relocated};
 use std::hint::black_box;
 use std::time::{Duration, Instant};
 
@@ -72,14 +73,21 @@ pub enum Question {
     Relocations,
     /// what a loader does with the headers, by crate sapyullu
     Loader,
+    /// the base check by the words of the one region, at bases from this one on
+    Bases(u64),
 }
-use Question::{Accepted, Loader, Numbers, Refused, Relocations};
+use Question::{Accepted, Bases, Loader, Numbers, Refused, Relocations};
+
+/// How many bases are checked at a time, since a check is as short as what it takes to measure one.
+const BASES: u64 = 64;
 
 /// An image, and what is asked of it.
 pub struct Case {
     pub name: String,
     pub sheet: Sheet,
     headers: Headers,
+    /// the words of the first region of mask 1, if there is one
+    region: [u8; 64],
     pub question: Question,
 }
 
@@ -130,7 +138,9 @@ impl Case {
     fn new(name: String, image: &Image, question: Question) -> Case {
         let sheet = Sheet::of(&image.bytes());
         let headers = Headers::decode(&sheet).expect("a readable image");
-        Case { name, sheet, headers, question }
+        let mut region = [0; 64];
+        paper::relocations(&sheet, 1, &mut region);
+        Case { name, sheet, headers, region, question }
     }
 
     /// Document 01 and the Rust accept the image, or refuse it, as the question says.
@@ -144,26 +154,65 @@ impl Case {
         }
     }
 
-    /// How many calls are measured at a time.
+    /// How many calls are measured at a time, or how often all bases are checked.
     pub fn times(&self) -> usize {
         (2048 / self.headers.kinds.len()).clamp(1, 64)
     }
 
-    /// The number of the refusal, 0 where there is none.
-    pub fn number(&self) -> u64 {
-        match self.question {
-            Refused(number) => number,
-            Accepted | Numbers | Relocations | Loader => 0,
+    /// Nanoseconds of a call, or of the check of one base, where so many took this long.
+    pub fn nanoseconds(&self, took: Duration, times: usize) -> f64 {
+        took.as_nanos() as f64 / times as f64 / if self.has_bases() { BASES as f64 } else { 1.0 }
+    }
+
+    /// The digits of nanoseconds behind the point.
+    pub fn digits(&self) -> usize {
+        if self.has_bases() {
+            2
+        } else {
+            0
         }
     }
 
-    /// `relocations` alone and the verdict for one number are no sides of that verdict, plain Rust has no region list, and a loader starts from headers.
+    fn has_bases(&self) -> bool {
+        matches!(self.question, Bases(_))
+    }
+
+    /// The number of the refusal, 0 where there is none.
+    fn number(&self) -> u64 {
+        match self.question {
+            Refused(number) => number,
+            Accepted | Numbers | Relocations | Loader | Bases(_) => 0,
+        }
+    }
+
+    /// What the call must give: the number of the refusal, or how many bases are valid.
+    pub fn answer(&self) -> u64 {
+        if self.has_bases() {
+            self.valid_bases(paper::region_base_valid)
+        } else {
+            self.number()
+        }
+    }
+
+    /// How many of the bases are valid by this check. A check begins when the one before it has answered: what it takes to divide would else be hidden behind it.
+    pub fn valid_bases(&self, valid: impl Fn(&[u8], u64) -> u64) -> u64 {
+        let Bases(first) = self.question else { unreachable!("no bases are checked") };
+        let (first, none, region) = (black_box(first), black_box(0), black_box(&self.region[..]));
+        let one_more = |(count, answer): (u64, u64), base: u64| {
+            let answer = valid(region, first + 0x1000 * base + (answer & none));
+            (count + answer, answer)
+        };
+        (0..BASES).fold((0, 0), one_more).0
+    }
+
+    /// `relocations` alone and the verdict for one number are no sides of that verdict, plain Rust has no region list, a loader starts from headers, and bases are
+    /// checked by a region's words.
     pub fn has(&self, side: Side) -> bool {
         match side {
             Alone => self.question == Relocations,
             Verdict => matches!(self.question, Numbers | Relocations),
             Plain => !matches!(self.question, Relocations | Loader),
-            Bytes => self.question != Loader,
+            Bytes => !matches!(self.question, Loader | Bases(_)),
             Library | Ready => true,
         }
     }
@@ -174,6 +223,7 @@ impl Case {
             Relocations => (calls.relocations)(sheet, 1, lent, 0),
             Numbers => (calls.verdict_numbers)(sheet, &mut lent[..48]),
             Accepted | Refused(_) => (calls.verdict)(sheet, 0),
+            Bases(_) => self.valid_bases(calls.region_base_valid),
             Loader => unreachable!("a loader makes more than one call"),
         }
     }
@@ -199,7 +249,8 @@ impl Case {
             Library => {
                 let mut lent = [0; 64 * 64];
                 self.ask(calls, &mut lent);
-                time(vec![(); times], |()| assert_eq!(self.ask(calls, &mut lent), self.number()))
+                let answer = self.answer();
+                time(vec![(); times], |()| assert_eq!(self.ask(calls, &mut lent), answer))
             }
             Verdict => {
                 let sheet = black_box(&self.sheet[..]);
@@ -220,6 +271,7 @@ impl Case {
     /// So many calls of a side that is not the library.
     pub fn peer(&self, side: Side, times: usize) -> Duration {
         match side {
+            Plain | Ready if self.has_bases() => self.check_bases(side, times),
             Plain => {
                 let _ = self.plain();
                 time(vec![(); times], |()| self.plain())
@@ -235,27 +287,41 @@ impl Case {
         }
     }
 
+    /// All bases by plain Rust, or by the Rust's region that stands ready, so many times.
+    fn check_bases(&self, side: Side, times: usize) -> Duration {
+        let words = self.region.as_chunks().0.iter().map(|&word| u64::from_le_bytes(word)).collect::<Vec<u64>>();
+        let region = Relocated::region(words.try_into().expect("eight words")).expect("a region of the Rust");
+        let answer = self.answer();
+        if side == Plain {
+            time(vec![(); times], |()| assert_eq!(self.valid_bases(plain::region_base_valid), answer))
+        } else {
+            let valid = |_: &[u8], base: u64| u64::from(black_box(&region).relocation_base_valid(base));
+            time(vec![(); times], |()| assert_eq!(self.valid_bases(valid), answer))
+        }
+    }
+
     /// The least time of a call of each side, in nanoseconds. The sides take turns.
     fn best(&self, calls: &Calls, sides: &[Side], rounds: u64, times: usize) -> Vec<(Side, f64)> {
         let sides = sides.iter().filter(|&&side| self.has(side));
         let mut best: Vec<(Side, f64)> = sides.map(|&side| (side, f64::INFINITY)).collect();
         for _ in 0..rounds {
             for (side, least) in &mut best {
-                *least = least.min(self.round(calls, *side, times).as_nanos() as f64 / times as f64);
+                *least = least.min(self.nanoseconds(self.round(calls, *side, times), times));
             }
         }
         best
     }
 
     fn line(&self, best: &[(Side, f64)]) -> String {
-        let rows = self.headers.kinds.len();
+        let rows = Some(self.headers.kinds.len() as f64).filter(|_| !self.has_bases());
+        let bytes = if self.has_bases() { self.region.len() } else { self.sheet.len() };
         let of = |side: Side| best.iter().find(|(other, _)| *other == side).map(|(_, least)| *least);
         let column = |number: Option<f64>, digits: usize| number.map_or(format!("{:>11}", "-"), |n| format!("{n:>11.digits$}"));
-        let mut line = format!("{:<24}{rows:>11}{:>11}", self.name, self.sheet.len());
-        line += &(column(of(Library), 0) + &column(of(Library).map(|least| least / rows as f64), 1));
+        let mut line = format!("{:<24}{}{bytes:>11}", self.name, column(rows, 0));
+        line += &(column(of(Library), self.digits()) + &column(of(Library).zip(rows).map(|(least, rows)| least / rows), 1));
         for side in [Plain, Ready, Bytes, Alone, Verdict] {
             let ratio = of(Library).zip(of(side)).map(|(library, other)| library / other);
-            line += &(column(of(side), 0) + &column(ratio, 2));
+            line += &(column(of(side), self.digits()) + &column(ratio, 2));
         }
         line
     }
@@ -312,6 +378,23 @@ fn each_case(each: &mut dyn FnMut(String, &dyn Fn(String) -> Case)) {
     }
     add("relocations-b".into(), Relocations, &b);
     add("numbers-b".into(), Numbers, &b);
+    for alignment in [0x1000, 0x20_0000, 0x4000_0000, 1 << 57, 0x3000, 0x5000, 0x60_0000] {
+        add(format!("aligned-{}", named(alignment)), Accepted, &|| aligned(64, alignment));
+    }
+    for (name, first) in [("base", 0), ("base-high", 1 << 40)] {
+        for alignment in [0x1000, 0x20_0000, 1 << 63, 0x3000, 0x5000] {
+            add(format!("{name}-{}", named(alignment)), Bases(first), &|| aligned(1, alignment));
+        }
+    }
+}
+
+/// An alignment in hexadecimal digits, or as a power of two where it is one of 2^32 or more.
+fn named(alignment: u64) -> String {
+    if alignment.is_power_of_two() && alignment >= 1 << 32 {
+        format!("2^{}", alignment.ilog2())
+    } else {
+        format!("{alignment:#x}")
+    }
 }
 
 fn image(initializations: Vec<Row>, directives: Vec<Row>) -> Image {
@@ -326,6 +409,12 @@ fn b() -> Image {
 /// Regions of mask 1 side by side, and a context.
 fn initializations(rows: u64) -> Image {
     image((0..rows).map(|row| region(1, 0x2000 * row, 0x2000)).collect(), vec![vbs(0, 1, 0)])
+}
+
+/// Regions of mask 1, a page each, at the first multiples of an alignment, up to its highest, and a context.
+fn aligned(rows: u64, alignment: u64) -> Image {
+    let region = |row: u64| Row::new(18, &[1, alignment, row * alignment, 0x1000, 0, TOP / alignment * alignment, 0, 0, 0]);
+    image((0..rows).map(region).collect(), vec![vbs(0, 1, 0)])
 }
 
 /// The last region is a page table.
