@@ -73,25 +73,25 @@ impl Placed {
         match case.question {
             Question::Relocations => unsafe { (self.relocations)(sheet.as_ptr(), sheet.len(), 1, lent.as_mut_ptr(), lent.len(), 0) },
             Question::Numbers => unsafe { self.verdict_numbers.expect("the call")(sheet.as_ptr(), sheet.len(), lent.as_mut_ptr(), 48) },
-            Question::Bases(_) => {
-                let valid = self.region_base_valid.expect("the call");
-                case.valid_bases(|region, base| unsafe { valid(region.as_ptr(), region.len(), base) })
-            }
             _ => unsafe { (self.verdict)(sheet.as_ptr(), sheet.len(), 0) },
         }
     }
 
     /// It answers as the case says. A build of other limits may refuse the image.
     fn answers(&self, case: &Case) -> bool {
-        self.ask(case, &mut [0; 64 * 64]) == case.answer()
+        case.has_bases() || self.ask(case, &mut [0; 64 * 64]) == case.number()
     }
 
     /// Nanoseconds of a call, after one that is not measured.
     fn nanoseconds(&self, case: &Case, times: usize) -> f64 {
+        if let Some(valid) = self.region_base_valid.filter(|_| case.has_bases()) {
+            let took = case.check_bases(|region, base| unsafe { valid(region.as_ptr(), region.len(), base) }, times);
+            return case.nanoseconds(took, times);
+        }
         let mut lent = [0; 64 * 64];
         self.ask(case, &mut lent);
-        let answer = case.answer();
-        case.nanoseconds(time(vec![(); times], |()| assert_eq!(self.ask(case, &mut lent), answer)), times)
+        let number = case.number();
+        case.nanoseconds(time(vec![(); times], |()| assert_eq!(self.ask(case, &mut lent), number)), times)
     }
 }
 

@@ -173,29 +173,20 @@ impl Case {
         }
     }
 
-    fn has_bases(&self) -> bool {
+    pub fn has_bases(&self) -> bool {
         matches!(self.question, Bases(_))
     }
 
     /// The number of the refusal, 0 where there is none.
-    fn number(&self) -> u64 {
+    pub fn number(&self) -> u64 {
         match self.question {
             Refused(number) => number,
             Accepted | Numbers | Relocations | Loader | Bases(_) => 0,
         }
     }
 
-    /// What the call must give: the number of the refusal, or how many bases are valid.
-    pub fn answer(&self) -> u64 {
-        if self.has_bases() {
-            self.valid_bases(paper::region_base_valid)
-        } else {
-            self.number()
-        }
-    }
-
     /// How many of the bases are valid by this check. A check begins when the one before it has answered: what it takes to divide would else be hidden behind it.
-    pub fn valid_bases(&self, valid: impl Fn(&[u8], u64) -> u64) -> u64 {
+    fn valid_bases(&self, valid: impl Fn(&[u8], u64) -> u64) -> u64 {
         let Bases(first) = self.question else { unreachable!("no bases are checked") };
         let (first, none, region) = (black_box(first), black_box(0), black_box(&self.region[..]));
         let one_more = |(count, answer): (u64, u64), base: u64| {
@@ -223,8 +214,7 @@ impl Case {
             Relocations => (calls.relocations)(sheet, 1, lent, 0),
             Numbers => (calls.verdict_numbers)(sheet, &mut lent[..48]),
             Accepted | Refused(_) => (calls.verdict)(sheet, 0),
-            Bases(_) => self.valid_bases(calls.region_base_valid),
-            Loader => unreachable!("a loader makes more than one call"),
+            Loader | Bases(_) => unreachable!("more than one call"),
         }
     }
 
@@ -246,11 +236,11 @@ impl Case {
     fn round(&self, calls: &Calls, side: Side, times: usize) -> Duration {
         match side {
             Library if self.question == Loader => self.load(times),
+            Library if self.has_bases() => self.check_bases(calls.region_base_valid, times),
             Library => {
                 let mut lent = [0; 64 * 64];
                 self.ask(calls, &mut lent);
-                let answer = self.answer();
-                time(vec![(); times], |()| assert_eq!(self.ask(calls, &mut lent), answer))
+                time(vec![(); times], |()| assert_eq!(self.ask(calls, &mut lent), self.number()))
             }
             Verdict => {
                 let sheet = black_box(&self.sheet[..]);
@@ -271,7 +261,11 @@ impl Case {
     /// So many calls of a side that is not the library.
     pub fn peer(&self, side: Side, times: usize) -> Duration {
         match side {
-            Plain | Ready if self.has_bases() => self.check_bases(side, times),
+            Plain if self.has_bases() => self.check_bases(plain::region_base_valid, times),
+            Ready if self.has_bases() => {
+                let region = Relocated::region(self.words()).expect("a region of the Rust");
+                self.check_bases(|_, base| u64::from(black_box(&region).relocation_base_valid(base)), times)
+            }
             Plain => {
                 let _ = self.plain();
                 time(vec![(); times], |()| self.plain())
@@ -287,17 +281,16 @@ impl Case {
         }
     }
 
-    /// All bases by plain Rust, or by the Rust's region that stands ready, so many times.
-    fn check_bases(&self, side: Side, times: usize) -> Duration {
-        let words = self.region.as_chunks().0.iter().map(|&word| u64::from_le_bytes(word)).collect::<Vec<u64>>();
-        let region = Relocated::region(words.try_into().expect("eight words")).expect("a region of the Rust");
-        let answer = self.answer();
-        if side == Plain {
-            time(vec![(); times], |()| assert_eq!(self.valid_bases(plain::region_base_valid), answer))
-        } else {
-            let valid = |_: &[u8], base: u64| u64::from(black_box(&region).relocation_base_valid(base));
-            time(vec![(); times], |()| assert_eq!(self.valid_bases(valid), answer))
-        }
+    /// The region's words.
+    fn words(&self) -> [u64; 8] {
+        std::array::from_fn(|word| u64::from_le_bytes(std::array::from_fn(|byte| self.region[8 * word + byte])))
+    }
+
+    /// All bases by this check, so many times, after once that is not measured. As many must be valid as document 01 says.
+    pub fn check_bases(&self, valid: impl Fn(&[u8], u64) -> u64, times: usize) -> Duration {
+        let count = self.valid_bases(paper::region_base_valid);
+        assert_eq!(self.valid_bases(&valid), count, "{}: valid bases", self.name);
+        time(vec![(); times], |()| assert_eq!(self.valid_bases(&valid), count))
     }
 
     /// The least time of a call of each side, in nanoseconds. The sides take turns.
