@@ -50,18 +50,18 @@ impl Alignments {
         }
     }
 
-    /// A verdict on a sheet: the regions of one that is accepted, or the row that is refused by 20.
+    /// A verdict of number 0 or 20: the regions of the sheet that is accepted, or the row that is refused.
     pub fn verdict(&mut self, sheet: &[u8], number: u64, row: u64) {
-        let Some(image) = Image::parse(sheet).filter(|_| matches!(number, 0 | 20)) else { return };
+        let Some(image) = Image::parse(sheet) else { return };
         let first = image.lists[0].len() as u64 + 1;
         for (at, region) in (first..).zip(&image.lists[1]).filter(|(_, region)| region.kind == 18) {
             let of = |name: &str| region.get(name).unwrap_or(0);
             let alignment = of("alignment");
-            let no_multiple = |name: &&str| of(name).checked_rem(alignment) != Some(0);
+            let is_multiple = |name: &str| of(name).checked_rem(alignment) == Some(0);
             match number {
                 0 => self.met(alignment, Met::Accepted),
                 _ if at == row => {
-                    let field = ["gpa", "minimum", "maximum"].iter().position(|name| no_multiple(&name)).expect("one is no multiple");
+                    let field = ["gpa", "minimum", "maximum"].iter().position(|name| !is_multiple(name)).expect("one is no multiple");
                     self.met(alignment, Met::Refused(field));
                 }
                 _ => {}

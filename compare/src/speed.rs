@@ -404,7 +404,7 @@ fn initializations(rows: u64) -> Image {
     image((0..rows).map(|row| region(1, 0x2000 * row, 0x2000)).collect(), vec![vbs(0, 1, 0)])
 }
 
-/// Regions of mask 1, a page each, at the first multiples of an alignment, up to its highest, and a context.
+/// Regions of mask 1, a page each, at the first multiples of an alignment, the highest of which is their maximum, and a context.
 fn aligned(rows: u64, alignment: u64) -> Image {
     let region = |row: u64| Row::new(18, &[1, alignment, row * alignment, 0x1000, 0, TOP / alignment * alignment, 0, 0, 0]);
     image((0..rows).map(region).collect(), vec![vbs(0, 1, 0)])
