@@ -1,10 +1,10 @@
 #!/usr/bin/env python3
-"""Instructions of one call, counted by callgrind: of the library, of plain Rust, and of the Rust on headers that stand ready; and how many of them divide.
+"""Instructions of one call, counted by callgrind: of the library, of plain Rust, and of the Rust on headers that stand ready; and how many divide.
 
     instructions.py PROGRAM [CASE..]     PROGRAM is compare as `run speed` builds it; without CASE all are counted
 
-A ratio is the library's to the number of instructions before it. Of a case of bases a call is the check of one base. With KEEP=FOLDER in the environment the
-profiles stay there, for callgrind_annotate.
+A ratio is the library's to the number of instructions before it. Of a case of bases a call is the check of one base. With KEEP=FOLDER in the
+environment the profiles stay there, for callgrind_annotate.
 """
 
 import os
@@ -30,7 +30,7 @@ def division_addresses(program):
 
 
 def executed(profile, program, addresses):
-    """How often the instructions at these addresses of the program were executed. The line behind `calls=` has the cost of the function that is called."""
+    """How often the instructions at these addresses of the program were executed. The line behind `calls=` has the cost of what is called."""
     total, here, skip = 0, False, False
     for line in profile.read_text().splitlines():
         if line.startswith("ob="):

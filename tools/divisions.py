@@ -3,11 +3,11 @@
 
     tools/divisions.py ARCHIVE
 
-Every function that objdump shows is followed from its entry along all its jumps; `jmp *` goes to every entry of the function's jump tables, as the relocations
-tell them. What is known on all ways to an instruction: that one register is another, or another less one, and that a register holds a number a for which
-a & (a - 1) is not 0, since `test` or `and` of both came before je or jne: a is neither 0 nor a power of two. A write to a register ends what is known of it,
-a call what is known of all. It fails where a register divides of which the last is not known, where code is not reached, so that its jumps were not
-understood, and where there is no division or no such test.
+Every function that objdump shows is followed from its entry along all its jumps; `jmp *` goes to every entry of the function's jump tables, as
+the relocations tell them. What is known on all ways to an instruction: that one register is another, or another less one, and that a register
+holds a number a for which a & (a - 1) is not 0, since `test` or `and` of both came before je or jne: a is neither 0 nor a power of two. A write to
+a register ends what is known of it, a call what is known of all. It fails where a register divides of which the last is not known, where code is
+not reached, so that its jumps were not understood, and where there is no division or no such test.
 """
 import collections
 import re
@@ -27,7 +27,8 @@ def whole(operand):
 def functions(archive):
     """Of each function its instructions by address, and where its jump tables lead."""
     code, bases, tables = {}, collections.defaultdict(set), collections.defaultdict(set)
-    shown = [subprocess.run(["objdump", *how, archive], capture_output=True, text=True, check=True).stdout for how in (["-dr", "--no-show-raw-insn"], ["-r"])]
+    ways = ["-dr", "--no-show-raw-insn"], ["-r"]
+    shown = [subprocess.run(["objdump", *way, archive], capture_output=True, text=True, check=True).stdout for way in ways]
     for line in shown[0].splitlines():
         if head := re.fullmatch(r"[0-9a-f]+ <(.+)>:", line):
             function = code.setdefault(head[1], {})
@@ -58,7 +59,7 @@ def written(name, operands):
 
 
 def behind(name, operands, known):
-    """What is known behind an instruction: ("same", a, b), ("less", a, b) for a = b - 1, ("no power", a), and ("flags", a) where they tell of a & (a - 1)."""
+    """What is known behind it: ("same", a, b), ("less", a, b) for a = b - 1, ("no power", a), and ("flags", a) where they tell of a & (a - 1)."""
     gone, keeps_flags = written(name, operands), re.match(r"mov|lea|j|nop|set|cmov|push|pop", name)
     facts = {fact for fact in known if not gone & set(fact[1:]) and (fact[0] != "flags" or keeps_flags)}
     first, last = (whole(operands[0]), whole(operands[-1])) if operands else ("", "")

@@ -348,7 +348,8 @@ accepted("alignment-3000", "1 1 1", "alignment 0x3000, no power of two", B.initi
 accepted("alignment-3000-bits", "1 1 1", "alignment 0x3000; gpa, minimum and maximum are multiples that have bits of 0x2FFF",
          B.initializations(region(alignment=0x3000, gpa=0x303000, minimum=0x6000, maximum=0x606000)))
 accepted("alignment-5000", "1 1 1", "alignment 0x5000, no power of two", B.initializations(region(alignment=0x5000, gpa=0x500000, maximum=0xA00000)))
-refused("20-3000-gpa", 2, 0x1000, "alignment 0x3000, gpa 0x1000, which has no bit of 0x2FFF", B.initializations(region(alignment=0x3000, gpa=0x1000, maximum=0x300000)))
+refused("20-3000-gpa", 2, 0x1000, "alignment 0x3000, gpa 0x1000, which has no bit of 0x2FFF",
+        B.initializations(region(alignment=0x3000, gpa=0x1000, maximum=0x300000)))
 refused("20-3000-minimum", 2, 0x10000, "alignment 0x3000, minimum 0x10000, which has no bit of 0x2FFF",
         B.initializations(region(alignment=0x3000, gpa=0x300000, minimum=0x10000, maximum=0x600000)))
 refused("20-3000-maximum", 2, 0x400000, "alignment 0x3000, maximum 0x400000, which has no bit of 0x2FFF",

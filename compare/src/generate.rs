@@ -369,8 +369,9 @@ fn misalign(random: &mut Random, image: &mut Image) {
     }
 }
 
-/// A number about this multiple of an alignment: one bit below the alignment's highest is another, or it is half an alignment, a page or one further on or
-/// back, or it has no bit of the alignment less one, as the multiples of a power of two. Also another multiple, and the multiple itself.
+/// A number about this multiple of an alignment: one bit below the alignment's highest is another, or it is half an alignment, a page or one
+/// further on or back, or it has no bit of the alignment less one, as the multiples of a power of two. Also another multiple, and the multiple
+/// itself.
 pub fn near_multiple(random: &mut Random, alignment: u64, multiple: u64) -> u64 {
     let low_bits = alignment.wrapping_sub(1);
     match random.below(8) {

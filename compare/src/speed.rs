@@ -185,7 +185,8 @@ impl Case {
         }
     }
 
-    /// How many of the bases are valid by this check. A check begins when the one before it has answered: what it takes to divide would else be hidden behind it.
+    /// How many of the bases are valid by this check. A check begins when the one before it has answered: else the processor divides for several at
+    /// once.
     fn valid_bases(&self, valid: impl Fn(&[u8], u64) -> u64) -> u64 {
         let Bases(first) = self.question else { unreachable!("no bases are checked") };
         let (first, none, region) = (black_box(first), black_box(0), black_box(&self.region[..]));
@@ -196,8 +197,8 @@ impl Case {
         (0..BASES).fold((0, 0), one_more).0
     }
 
-    /// `relocations` alone and the verdict for one number are no sides of that verdict, plain Rust has no region list, a loader starts from headers, and bases are
-    /// checked by a region's words.
+    /// `relocations` alone and the verdict for one number are no sides of that verdict, plain Rust has no region list, a loader starts from
+    /// headers, and bases are checked by a region's words.
     pub fn has(&self, side: Side) -> bool {
         match side {
             Alone => self.question == Relocations,
