@@ -49,10 +49,10 @@ def functions(archive):
 
 def written(name, operands):
     """The registers that an instruction writes."""
-    if name == "call" or not operands:
+    if name == "call" or not operands or "%es:" in "".join(operands):
         return REGISTERS
-    if re.match(r"i?div|i?mul", name) and len(operands) == 1 or "%es:" in " ".join(operands):
-        return {"rax", "rcx", "rdx", "rsi", "rdi"}
+    if re.match(r"i?div|i?mul", name) and len(operands) == 1:
+        return {"rax", "rdx"}
     if re.fullmatch(r"(cmp|test)[bwlq]?|j\w+|push|nop\w?", name):
         return set()
     return set(map(whole, operands)) if "xchg" in name else {whole(operands[-1])}
