@@ -46,11 +46,14 @@ pub fn accept<'a>(
     while c.row < end {
         let row = sheet_reader::row_from(s, c);
         let f = initialization_row::row_of(row.kind, sheet_reader::body_from(s, c, row), x64, cca);
+        if !f.ok {
+            return InitializationsReached { at: c, count: n };
+        }
         let r = f.region;
         let found = f.found;
         let shares = clashes::any_tables_share(r, masks, tables, n);
         let overlaps = initialization_check::any_near_overlap(reach, r, masks, gpas, sizes, n);
-        if !f.ok | (found & (shares | overlaps)) {
+        if found & (shares | overlaps) {
             return InitializationsReached { at: c, count: n };
         }
         masks[n] = r.mask;

@@ -1,4 +1,4 @@
-use Rattle.rows.{proofs.Kit.{_≡_, refl, true, false, not, _&&_, _||_, _+_, _-_, _*_, _≤_, _<_, length, arith, needs, not-false, now}, proofs.Bools.{one-at-most, or-false-parts}}
+use Rattle.rows.{proofs.Kit.{refl, _+_, _-_, _*_, _≤_, _<_, length, arith, needs, not-false, now}, proofs.Bools.one-at-most}
 use Rattle.sheet.{specs.Head.headOf, specs.Table.{rowKind, bodyOf}}
 use Rattle.sheet_reader.proofs.ReaderLaws.{Found, read-room}
 use Rattle.sheet_headers.specs.Headers.{sheetHeaders}
@@ -36,100 +36,100 @@ at-row c = row-known (c .before .before .loop .inv) (c .if1 .taken)
 fits : (c : tie.After-row-from Inv-loop μ-loop) → c .before .before .before .loop .c .at + c .row-from .result .length ≤ length (now (c .before .before .before .before .before .before .before .before .before .before .before .before .before .args .s))
 fits c = read-room _ _ _ _ (c .row-from .ensures) (at-row (c .before) .1)
 
--- the row's tests passed
-passed : (c : tie.Else2 Inv-loop μ-loop)
-    → let f = c .before .before .before .before .before .before .before .before .before .before .row-of .result in
-    (f .ok ≡ true) × ((f .found && (c .before .before .before .before .before .before .any-tables-share .result || c .before .before .any-near-overlap .result)) ≡ false)
-passed c =
-    let f = c .before .before .before .before .before .before .before .before .before .before .row-of .result in
-    let (a, b) = or-false-parts (not (f .ok)) _ (c .if2 .left) in
-    (not-false (f .ok) a, b)
-
 -- the row is there, and in order by itself
 order : (c : tie.Else2 Inv-loop μ-loop)
-    → let l = c .before .before .before .before .before .before .before .before .before .before .before .before .before .before .before .loop in
-    let s = now (c .before .before .before .before .before .before .before .before .before .before .before .before .before .before .before .before .before .before .before .before .before .before .before .before .before .args .s) in
-    let f = c .before .before .before .before .before .before .before .before .before .before .row-of .result in
-    Found s (l .c .row) (l .c .at) (c .before .before .before .before .before .before .before .before .before .before .before .before .row-from .result)
+    → let l = c .before .before .before .before .before .before .before .loop in let s = now (c .before .before .before .before .before .before .before .before .before .before .before .before .before .before .before .before .before .args .s) in let f = c .before .before .row-of .result in
+    Found s (l .c .row) (l .c .at) (c .before .before .before .before .row-from .result)
     × InOrder (sheetHeaders s .arch) (sheetHeaders s .platforms) (rowKind s (l .c .row)) (bodyOf s (l .c .row)) (f .found) (f .region)
 order c =
-    let r = c .before .before .before .before .before .before .before .before .before .before .before .before .before .before .before .loop .inv in
-    row-order r _ _ _ _ (c .before .before .before .before .before .before .before .before .before .before .before .before .row-from .ensures) (c .before .before .before .before .before .before .before .before .before .before .before .body-from .ensures) (c .before .before .before .before .before .before .before .before .before .before .row-of .ensures _ _ (r .asked .arch) (r .asked .bits) (passed c .0))
+    let r = c .before .before .before .before .before .before .before .loop .inv in
+    row-order r _ _ _ _ (c .before .before .before .before .row-from .ensures) (c .before .before .before .body-from .ensures) (c .before .before .row-of .ensures _ _ (r .asked .arch) (r .asked .bits) (not-false _ (c .if2 .left)))
 
 -- the arrays have room for it
 room : (c : tie.Else2 Inv-loop μ-loop)
-    → let l = c .before .before .before .before .before .before .before .before .before .before .before .before .before .before .before .loop in
+    → let l = c .before .before .before .before .before .before .before .loop in
     (l .n < 64) × (l .n < length (l .masks)) × (l .n < length (l .gpas)) × (l .n < length (l .sizes)) × (l .n < length (l .vps)) × (l .n < length (l .vtls))
     × (l .n < length (l .tables)) × (l .n < length (l .rows))
 room c =
-    let l = at-row (c .before .before .before .before .before .before .before .before .before .before .before .before .before) .3 in
-    let inv = c .before .before .before .before .before .before .before .before .before .before .before .before .before .before .before .loop .inv in
+    let l = at-row (c .before .before .before .before .before) .3 in
+    let inv = c .before .before .before .before .before .before .before .loop .inv in
     let small = inv .asked .initializations in let lent = inv .lent in
     omega arith
 
 any-tables-share-requires : tie.Need-any-tables-share-requires Inv-loop μ-loop
 any-tables-share-requires c κs =
-    let l = at-row (c .before .before .before .before .before .before) .3 in
-    let lent = c .before .before .before .before .before .before .before .before .loop .inv .lent in
+    let l = at-row (c .before .before .before .before .before .before .before .before) .3 in
+    let lent = c .before .before .before .before .before .before .before .before .before .before .loop .inv .lent in
     omega arith
 
 any-near-overlap-requires : tie.Need-any-near-overlap-requires Inv-loop μ-loop
 any-near-overlap-requires c κs =
-    let l = at-row (c .before .before .before .before .before .before .before .before .before .before) .3 in
-    let lent = c .before .before .before .before .before .before .before .before .before .before .before .before .loop .inv .lent in
+    let l = at-row (c .before .before .before .before .before .before .before .before .before .before .before .before) .3 in
+    let lent = c .before .before .before .before .before .before .before .before .before .before .before .before .before .before .loop .inv .lent in
     omega arith
 
--- what held at the loop's head, where the row's tests fail
-kept : (c : tie.Then2 Inv-loop μ-loop)
-    → let st = c .before .before .before .before .before .before .before .before .before .before .before .before .before .before .before .before .before .before .before .before .before .before .before .before .before in
-    let l = c .before .before .before .before .before .before .before .before .before .before .before .before .before .before .before .loop in
+-- what held at the loop's head, where the row is not in order, and where its region clashes
+kept : (c : tie.At-loop Inv-loop μ-loop)
+    → let st = c .before .before .before .before .before .before .before .before .before .before in let l = c .loop in
     Reached (now (st .args .s)) (st .args .end) (st .args .x64) (st .args .cca)
     (regionsIn (now (st .args .masks)) (now (st .args .gpas)) (now (st .args .sizes)) (now (st .args .vps)) (now (st .args .vtls)) (now (st .args .tables)) 0) (now (st .args .rows))
     (regionsIn (l .masks) (l .gpas) (l .sizes) (l .vps) (l .vtls) (l .tables) (l .n)) (l .rows) (l .c) (l .reach)
-kept c = c .before .before .before .before .before .before .before .before .before .before .before .before .before .before .before .loop .inv
+kept c = c .loop .inv
+
+abbrev out-of-order : tie.Then2 Inv-loop μ-loop → tie.At-loop Inv-loop μ-loop
+out-of-order c = c .before .before .before .before .before .before .before
+
+abbrev clash : tie.Then3 Inv-loop μ-loop → tie.At-loop Inv-loop μ-loop
+clash c = c .before .before .before .before .before .before .before .before .before .before .before .before .before .before .before .before
+
+-- the row in order, where its region is stored
+abbrev stored : tie.Else3 Inv-loop μ-loop → tie.Else2 Inv-loop μ-loop
+stored c = c .before .before .before .before .before .before .before .before .before
 
 add-rows : tie.Need-add-rows Inv-loop μ-loop
-add-rows c = let l = at-row (c .before .before .before .before .before .before .before .before .before .before .before .before .before .before) .2 in omega arith
+add-rows c = let l = at-row (c .before .before .before .before .before .before .before .before .before .before .before .before .before .before .before) .2 in omega arith
 
 cast-rows : tie.Need-cast-rows Inv-loop μ-loop
-cast-rows c = let l = at-row (c .before .before .before .before .before .before .before .before .before .before .before .before .before .before) .2 in omega arith
+cast-rows c = let l = at-row (c .before .before .before .before .before .before .before .before .before .before .before .before .before .before .before) .2 in omega arith
 
 add-n : tie.Need-add-n Inv-loop μ-loop
 add-n c =
-    let l = room (c .before) .0 in
-    let m = one-at-most (c .before .before .before .before .before .before .before .before .before .before .before .row-of .result .found) in
+    let l = room (stored (c .before)) .0 in
+    let m = one-at-most (c .before .before .before .before .before .before .before .before .before .before .before .before .row-of .result .found) in
     omega arith
 
 after-requires : tie.Need-after-requires Inv-loop μ-loop
 after-requires c κs =
-    let s = c .before .before .before .before .before .before .before .before .before .before .before .before .before .before .before .before .before .before .before .before .before .before .before .before .before .before .before .good .0 .0 in
-    let r = fits (c .before .before .before .before .before .before .before .before .before .before .before .before .before .before) in
-    let l = at-row (c .before .before .before .before .before .before .before .before .before .before .before .before .before .before .before) .2 in
+    let s = c .before .before .before .before .before .before .before .before .before .before .before .before .before .before .before .before .before .before .before .before .before .before .before .before .before .before .before .before .good .0 .0 in
+    let r = fits (c .before .before .before .before .before .before .before .before .before .before .before .before .before .before .before) in
+    let l = at-row (c .before .before .before .before .before .before .before .before .before .before .before .before .before .before .before .before) .2 in
     (omega arith, omega arith)
 
 loop-less : tie.Need-loop-less Inv-loop μ-loop
-loop-less c = rw (c .after .ensures) (let l = c .before .before .before .before .before .before .before .before .before .before .before .before .before .before .before .before .if1 .taken in omega arith)
+loop-less c = rw (c .after .ensures) (let l = c .before .before .before .before .before .before .before .before .before .before .before .before .before .before .before .before .before .if1 .taken in omega arith)
 
 loop-again : tie.Need-loop-again Inv-loop μ-loop
 loop-again c =
-    let e = c .before .before .before in
-    let inv = c .before .before .before .before .before .before .before .before .before .before .before .before .before .before .before .before .before .before .loop .inv in
-    let l = c .before .before .before .before .before .before .before .before .before .before .before .before .before .before .before .before .if1 .taken in
-    let (f, good) = order e in
-    let faultless = row-faultless inv _ _ _ l f good _ _ (c .before .before .before .before .before .before .before .before .before .any-tables-share .ensures) (c .before .before .before .before .before .any-near-overlap .ensures) (passed e .1) in
+    let inv = c .before .before .before .before .before .before .before .before .before .before .before .before .before .before .before .before .before .before .before .loop .inv in
+    let l = c .before .before .before .before .before .before .before .before .before .before .before .before .before .before .before .before .before .if1 .taken in
+    let (f, good) = order (stored (c .before .before .before)) in
+    let faultless = row-faultless inv _ _ _ l f good _ _ (c .before .before .before .before .before .before .before .before .any-tables-share .ensures) (c .before .before .before .before .any-near-overlap .ensures) (c .before .before .before .if3 .left) in
     rw (c .after .ensures) (reached-next inv _ _ _ l f good _ faultless (c .before .with .ensures))
 
 pub accept-spec : {M : Type 1} → statement M
 accept-spec =
     tie.close (tie.spec Inv-loop μ-loop (λ c κs. search needs) loop-holds (λ c κs. let k = at-row c in (k .0, k .1)) (λ c κs. fits c)
-    (λ c κs. search needs) any-tables-share-requires any-near-overlap-requires (λ c. kept c .lent .mask .0) (λ c. kept c .lent .gpa .0)
-    (λ c. kept c .lent .size .0) (λ c. kept c .lent .vp .0) (λ c. kept c .lent .vtl .0) (λ c. kept c .lent .table .0)
-    (λ c. kept c .lent .number .0) (λ c. kept c .accepted) (λ c. let small = room c .0 in omega arith) (λ c. room c .1)
-    (λ c. let small = room c .0 in omega arith) (λ c. room c .2) (λ c. let small = room c .0 in omega arith) (λ c. room c .3)
-    (λ c. let small = room c .0 in omega arith) (λ c. room c .4) (λ c. room c .5) (λ c. room c .6) add-rows cast-rows
-    (λ c. let small = room (c .before) .0 in omega arith) (λ c. room (c .before) .7) (λ c. search needs) add-n
-    (λ c κs. order (c .before) .1 .ends) after-requires loop-less loop-again (λ c. c .before .before .loop .inv .lent .mask .0)
-    (λ c. c .before .before .loop .inv .lent .gpa .0) (λ c. c .before .before .loop .inv .lent .size .0)
-    (λ c. c .before .before .loop .inv .lent .vp .0) (λ c. c .before .before .loop .inv .lent .vtl .0)
-    (λ c. c .before .before .loop .inv .lent .table .0) (λ c. c .before .before .loop .inv .lent .number .0)
-    (λ c. c .before .before .loop .inv .accepted))
+    (λ c κs. search needs) (λ c. kept (out-of-order c) .lent .mask .0) (λ c. kept (out-of-order c) .lent .gpa .0)
+    (λ c. kept (out-of-order c) .lent .size .0) (λ c. kept (out-of-order c) .lent .vp .0) (λ c. kept (out-of-order c) .lent .vtl .0)
+    (λ c. kept (out-of-order c) .lent .table .0) (λ c. kept (out-of-order c) .lent .number .0) (λ c. kept (out-of-order c) .accepted)
+    any-tables-share-requires any-near-overlap-requires (λ c. kept (clash c) .lent .mask .0) (λ c. kept (clash c) .lent .gpa .0)
+    (λ c. kept (clash c) .lent .size .0) (λ c. kept (clash c) .lent .vp .0) (λ c. kept (clash c) .lent .vtl .0)
+    (λ c. kept (clash c) .lent .table .0) (λ c. kept (clash c) .lent .number .0) (λ c. kept (clash c) .accepted)
+    (λ c. let small = room (stored c) .0 in omega arith) (λ c. room (stored c) .1)
+    (λ c. let small = room (stored c) .0 in omega arith) (λ c. room (stored c) .2) (λ c. let small = room (stored c) .0 in omega arith)
+    (λ c. room (stored c) .3) (λ c. let small = room (stored c) .0 in omega arith) (λ c. room (stored c) .4) (λ c. room (stored c) .5)
+    (λ c. room (stored c) .6) add-rows cast-rows (λ c. let small = room (stored (c .before)) .0 in omega arith)
+    (λ c. room (stored (c .before)) .7) (λ c. search needs) add-n (λ c κs. order (stored (c .before)) .1 .ends) after-requires loop-less
+    loop-again (λ c. kept (c .before .before) .lent .mask .0) (λ c. kept (c .before .before) .lent .gpa .0)
+    (λ c. kept (c .before .before) .lent .size .0) (λ c. kept (c .before .before) .lent .vp .0) (λ c. kept (c .before .before) .lent .vtl .0)
+    (λ c. kept (c .before .before) .lent .table .0) (λ c. kept (c .before .before) .lent .number .0) (λ c. kept (c .before .before) .accepted))
