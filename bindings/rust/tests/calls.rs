@@ -211,6 +211,20 @@ fn a_regions_sums_are_exact() {
 }
 
 #[test]
+fn a_base_is_a_multiple_of_any_alignment() {
+    let valid = |alignment, base| loose(0, 0, alignment, 0, u64::MAX).relocation_base_valid(base);
+    for place in 0..64 {
+        let power = 1 << place;
+        assert!(valid(power, 0) && valid(power, power) && valid(power, 0u64.wrapping_sub(power)), "2^{place}");
+        assert!((0..place).all(|bit| !valid(power, power | 1 << bit)), "2^{place}, with a lower bit");
+    }
+    for alignment in [0x3000, 0x5000, 0xFFF, (1 << 63) - 1, (1 << 63) + 0x1000] {
+        assert!(valid(alignment, alignment), "{alignment:#x} has a bit of the number below it");
+        assert!(!valid(alignment, 0u64.wrapping_sub(alignment)), "2^64 - {alignment:#x} has none, and is no multiple");
+    }
+}
+
+#[test]
 fn a_regions_methods_are_the_sums_in_128_bits() {
     let mut state = 1;
     let (mut valid, mut contained) = (0, 0);
