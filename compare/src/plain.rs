@@ -1,5 +1,4 @@
-//! The verdict as one writes it for speed in plain safe Rust: one pass over the rows, one arm for each kind, and no more kept of a row than later ones ask for;
-//! and the base check by a region's words.
+//! The verdict as one writes it for speed in plain safe Rust: one pass over the rows, one arm for each kind, and no more kept of a row than later ones ask for.
 //! It answers as paper.rs does, on every byte string. The library has two peers: the Rust of the crate, on headers that stand ready, and this one, which starts
 //! from the sheet's bytes as the library does.
 
@@ -50,15 +49,6 @@ pub fn numbers(sheet: &[u8]) -> [u64; 6] {
         Ok([p, i, d]) => [0, 0, 0, p, i, d],
         Err(Refusal(number, row, detail)) => [number, row, detail, 0, 0, 0],
     }
-}
-
-/// The base check by a region's words: 1 where it holds, else 0. Of alignment 0 only 0 is a multiple.
-#[inline(never)]
-pub fn region_base_valid(region: &[u8], base: u64) -> u64 {
-    let Some(words) = region.first_chunk::<64>() else { return 0 };
-    let [size, alignment, minimum, maximum] = [8, 16, 24, 32].map(|at| u64_at(words, at));
-    let is_multiple = base.checked_rem(alignment).unwrap_or(base) == 0;
-    u64::from(is_multiple && minimum <= base && base.checked_add(size).is_some_and(|end| end <= maximum))
 }
 
 // ---- reading

@@ -4,7 +4,7 @@
 use crate::alignments::{self, Alignments};
 use crate::compare::{Between, Call, Difference, Extent, Rust};
 use crate::random::Random;
-use crate::{generate, paper, plain, plan, short};
+use crate::{generate, paper, plan, short};
 use calls::Calls;
 use oracle::Relocated;
 
@@ -30,6 +30,15 @@ pub fn by_rust(region: &[u8], call: Call) -> Option<u64> {
     }
 }
 
+/// The base check as plain safe Rust has it: 1 where it holds, else 0. Of alignment 0 only 0 is a multiple. It does not stand in plain.rs: the verdict there
+/// is then compiled otherwise, and takes 1.13 of the time on 64 regions.
+#[inline(never)]
+pub fn by_plain(region: &[u8], base: u64) -> u64 {
+    let Some([_, size, alignment, minimum, maximum, ..]) = words(region) else { return 0 };
+    let is_multiple = base.checked_rem(alignment).unwrap_or(base) == 0;
+    u64::from(is_multiple && minimum <= base && base.checked_add(size).is_some_and(|end| end <= maximum))
+}
+
 /// The answers to a check by words, compared. Gives the answer.
 pub fn check(calls: &Calls, region: &[u8], call: Call) -> Result<u64, Difference> {
     let answer = call.ask(calls, region, &mut [], 0);
@@ -41,7 +50,7 @@ pub fn check(calls: &Calls, region: &[u8], call: Call) -> Result<u64, Difference
         }
     }
     if let Call::RegionBaseValid { base } = call {
-        let by_plain = plain::region_base_valid(region, base);
+        let by_plain = by_plain(region, base);
         if by_plain != by_paper {
             return Err(differ(Between::Plain, format!("plain Rust says {by_plain}; document 01 says {by_paper}")));
         }

@@ -2,6 +2,7 @@
 
 use crate::generate::TOP;
 use crate::memory::Sheet;
+use crate::region::by_plain;
 use crate::sheet::{Image, Row};
 use crate::short::{native, page_table, region, vbs};
 use crate::{loader, paper, plain};
@@ -262,7 +263,7 @@ impl Case {
     /// So many calls of a side that is not the library.
     pub fn peer(&self, side: Side, times: usize) -> Duration {
         match side {
-            Plain if self.has_bases() => self.check_bases(plain::region_base_valid, times),
+            Plain if self.has_bases() => self.check_bases(by_plain, times),
             Ready if self.has_bases() => {
                 let region = Relocated::region(self.words()).expect("a region of the Rust");
                 self.check_bases(|_, base| u64::from(black_box(&region).relocation_base_valid(base)), times)
