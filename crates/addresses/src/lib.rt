@@ -5,7 +5,7 @@ ghost use lib.Dec.{leb, ltb};
 ghost use Rattle.addresses.specs.Addresses.{isMultiple, onPage, contains, meets, endsBeyond, baseValid};
 ghost use Rattle.addresses.specs.Powers.{isPowerOfTwo};
 
-// One less has none of the bits of a. 0 is no power of two.
+// a is a power of two: the number below it has none of its bits. 0 is none.
 pub fn is_power_of_two(a: u64) -> bool
     ensures { λ r. ⌜ r ≡ isPowerOfTwo a ⌝ }
 {
@@ -28,7 +28,7 @@ pub fn is_multiple(x: u64, a: u64) -> bool
     x % a == 0
 }
 
-// On a page boundary.
+// On a page boundary. The remainder by this constant is compiled to a test of its low bits.
 pub fn on_page(x: u64) -> bool
     ensures { λ r. ⌜ r ≡ onPage x ⌝ }
 {
