@@ -31,11 +31,12 @@ is-aarch64 AArch64 e = refl
 
 -- ---- a region alone: no fault where all tests pass
 
-pub region-tests : (alignment gpa size minimum maximum : ℕ)
-    → (onPage size && onPage alignment && not (eqb alignment 0) && isMultiple gpa alignment && isMultiple minimum alignment && isMultiple maximum alignment)
-    ≡ not (isFault (validateRegion alignment gpa size minimum maximum))
+pub region-tests : (alignment gpa size minimum maximum : ℕ) (sized aligned placed lowest highest : Bool)
+    → sized ≡ onPage size → aligned ≡ onPage alignment → placed ≡ isMultiple gpa alignment → lowest ≡ isMultiple minimum alignment → highest ≡ isMultiple maximum alignment
+    → (sized && aligned && not (eqb alignment 0) && placed && lowest && highest) ≡ not (isFault (validateRegion alignment gpa size minimum maximum))
 unfolding validateRegion isFault
-region-tests alignment gpa size minimum maximum = go (onPage size) (onPage alignment) (eqb alignment 0) (isMultiple gpa alignment) (isMultiple minimum alignment) (isMultiple maximum alignment)
+region-tests alignment gpa size minimum maximum sized aligned placed lowest highest es ea ep el eh =
+    rw (es, ea, ep, el, eh) (go (onPage size) (onPage alignment) (eqb alignment 0) (isMultiple gpa alignment) (isMultiple minimum alignment) (isMultiple maximum alignment))
   where
     go : (a b c d e f : Bool) → (a && b && not c && d && e && f)
         ≡ not (isFault (refuse (not a) (fault 17 0) (refuse (not b) (fault 18 0) (refuse c (fault 19 0) (refuse (not d) (fault 20 gpa) (refuse (not e) (fault 20 minimum) (refuse (not f) (fault 20 maximum) noFault)))))))
@@ -47,9 +48,10 @@ region-tests alignment gpa size minimum maximum = go (onPage size) (onPage align
     go true true false true true false = refl
     go true true false true true true = refl
 
-pub table-tests : (gpa size used : ℕ) → (onPage gpa && onPage size && onPage used && not (ltb size used)) ≡ not (isFault (validateTable gpa size used))
+pub table-tests : (gpa size used : ℕ) (placed sized filled : Bool) → placed ≡ onPage gpa → sized ≡ onPage size → filled ≡ onPage used
+    → (placed && sized && filled && not (ltb size used)) ≡ not (isFault (validateTable gpa size used))
 unfolding validateTable isFault
-table-tests gpa size used = go (onPage gpa) (onPage size) (onPage used) (ltb size used)
+table-tests gpa size used placed sized filled ep es ef = rw (ep, es, ef) (go (onPage gpa) (onPage size) (onPage used) (ltb size used))
   where
     go : (a b c d : Bool) → (a && b && c && not d)
         ≡ not (isFault (refuse (not a) (fault 21 gpa) (refuse (not b) (fault 22 size) (refuse (not c) (fault 22 used) (refuse d (fault 23 0) noFault)))))

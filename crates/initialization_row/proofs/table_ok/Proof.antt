@@ -3,7 +3,7 @@ use Rattle.initialization_row.proofs.{proofs.RowLaws.table-tests, proofs.table
 use Rattle.initialization_row.proofs.table_ok.Tie as tie
 
 returns : tie.Need-returns
-returns c = let g = c .before .before .before .args in cc (table-tests (g .gpa) (g .size) (g .used))
+returns c = table-tests _ _ _ _ _ _ (c .before .before .on-page .ensures) (c .before .on-page2 .ensures) (c .on-page3 .ensures)
 
 pub table-ok-spec : {M : Type 1} → statement M
 table-ok-spec = tie.close (tie.spec (λ c κs. search needs) (λ c κs. search needs) (λ c κs. search needs) returns)
