@@ -1,2 +1,4 @@
+pub mod BaseCheckExamples
+pub mod BaseCheckLaws
 pub mod PowerExamples
 pub mod PowerLaws

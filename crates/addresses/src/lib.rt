@@ -1,8 +1,10 @@
 // Alignments and ranges of guest physical addresses. No test overflows.
 ghost use mathlib.Core.Path.{_≡_};
+ghost use mathlib.Core.Bool.{cond};
 ghost use Prim.Native.Nat.{_+_};
 ghost use lib.Dec.{leb, ltb};
-ghost use Rattle.addresses.specs.Addresses.{isMultiple, onPage, contains, meets, endsBeyond, baseValid};
+ghost use Rattle.addresses.specs.Addresses.{isMultiple, onPage, contains, meets, endsBeyond};
+ghost use Rattle.addresses.specs.BaseChecks.{baseCheck, checkNumber};
 ghost use Rattle.addresses.specs.Powers.{isPowerOfTwo};
 
 // a is a power of two: the number below it has none of its bits. 0 is none.
@@ -76,8 +78,50 @@ pub fn ends_beyond(base: u64, size: u64) -> bool
     18446744073709551615 - base < size
 }
 
-pub fn base_valid(alignment: u64, size: u64, minimum: u64, maximum: u64, base: u64) -> bool
-    ensures { λ r. ⌜ r ≡ baseValid alignment size minimum maximum base ⌝ }
+// ---- the check of a proposed base
+
+pub enum BaseCheck {
+    Valid,
+    Unaligned,
+    BelowMinimum,
+    AboveMaximum,
+}
+
+impl BaseCheck {
+    pub fn number(self) -> u64
+        ensures { λ r. ⌜ r ≡ checkNumber self ⌝ }
+    {
+        match self {
+            BaseCheck::Valid => 1,
+            BaseCheck::Unaligned => 2,
+            BaseCheck::BelowMinimum => 3,
+            BaseCheck::AboveMaximum => 4,
+        }
+    }
+}
+
+// The answer where the test holds, else the other.
+fn answer_if(test: bool, answer: BaseCheck, other: BaseCheck) -> BaseCheck
+    ensures { λ r. ⌜ r ≡ cond test answer other ⌝ }
 {
-    is_multiple(base, alignment) & (minimum <= base) & ends_by(base, size, maximum)
+    if test {
+        return answer;
+    }
+    other
+}
+
+// The first that applies. All three tests are made: so bases of all sorts take the same time, with no branch to guess.
+pub fn base_check(alignment: u64, size: u64, minimum: u64, maximum: u64, base: u64) -> BaseCheck
+    ensures { λ r. ⌜ r ≡ baseCheck alignment size minimum maximum base ⌝ }
+{
+    let above = before_end(maximum, base, size);
+    answer_if(
+        !is_multiple(base, alignment),
+        BaseCheck::Unaligned,
+        answer_if(
+            base < minimum,
+            BaseCheck::BelowMinimum,
+            answer_if(above, BaseCheck::AboveMaximum, BaseCheck::Valid),
+        ),
+    )
 }

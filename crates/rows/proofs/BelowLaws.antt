@@ -1,7 +1,7 @@
 -- Laws of the definitions over the indexes below n. A law `..-more` is for a loop that goes from n to n + 1.
 use native.Mathlib.Nat.{mul-suc}
 use Rattle.rows.specs.Below.{anyBelow, orLater, firstBelow, lastBelow, sumBelow, countBelow, nthBelow}
-use Rattle.rows.proofs.{Kit.{_≡_, refl, ap₂, _∙_, Bool, true, false, cond, _&&_, _||_, false≢true, and-false, _≢_, _↔_, _⊎_, inl, inr, Option, none, some, ℕ, zero, suc, _+_, _*_, _≤_, _<_, zero-le, not-suc-le-zero, eq-or-lt-of-le, le-of-suc-le-suc, add-suc, add-zero, arith, add-one, eqb, eq-eqb, eqb-true, ne-eqb, getD, replicate}, Bools.{which, not-both, is-false, or-left, or-right, or-cases, and-parts, cond-map}}
+use Rattle.rows.proofs.{Kit.{_≡_, refl, ap₂, _∙_, Bool, true, false, cond, _&&_, _||_, false≢true, and-false, _≢_, _↔_, _⊎_, inl, inr, Option, none, some, ℕ, zero, suc, _+_, _*_, _≤_, _<_, zero-le, not-suc-le-zero, eq-or-lt-of-le, le-of-suc-le-suc, add-suc, add-zero, arith, add-one, eqb, eq-eqb, eqb-true, eqb-false, ne-eqb, getD, replicate}, Bools.{which, not-both, is-false, or-left, or-right, or-cases, and-parts, cond-map}}
 
 -- below suc n: n itself, or below n
 pub top : {i n : ℕ} → i < suc n → (i ≡ n) ⊎ (i < n)
@@ -217,6 +217,20 @@ nth-says (suc n) p k i h =
           let (g, c) = and-parts (p n) (eqb (countBelow n p) k) e in
           (omega arith, rw q at g, eqb-true _ _ (rw q at c))
       | inr e ↦ let (l, g, c) = nth-says n p k i (rw e at h) in (omega arith, g, c)
+    ]
+
+-- where no index is the one looked for, there are not so many
+pub nth-none : (n : ℕ) (p : ℕ → Bool) (k : ℕ) → nthBelow n p k ≡ none → countBelow n p ≤ k
+unfolding nthBelow sumBelow
+nth-none zero p k h = omega arith
+nth-none (suc n) p k h =
+    elim (which (p n)) [
+      | inl e ↦
+          elim (which (eqb (countBelow n p) k)) [
+            | inl q ↦ absurd (false≢true (cc (rw (e, q) at h)))
+            | inr q ↦ let l = nth-none n p k (rw (e, q) at h) in let d = eqb-false (countBelow n p) k q in rw e (omega arith)
+          ]
+      | inr e ↦ let l = nth-none n p k (rw e at h) in rw e (omega arith)
     ]
 
 pub nth-more : {A : Type 0} (f : Option ℕ → A) (n : ℕ) (p : ℕ → Bool) (k : ℕ)
