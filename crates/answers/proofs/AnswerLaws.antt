@@ -1,8 +1,10 @@
 -- What is known of a sheet where a call is not refused.
-use Rattle.rows.proofs.Kit.{_≡_, refl, false, List, _≢_, Option, none, some, ℕ, _*_, _/_, _≤_, eqb, ltb, ltb-false, eqb-false}
+use Rattle.rows.{proofs.Kit.{_≡_, refl, Bool, false, false≢true, List, _≢_, Option, none, some, ℕ, _*_, _/_, _≤_, _<_, eqb, ltb, ltb-false, eqb-false, arith}, specs.Below.nthBelow, specs.Rows.{Rows, rowAt}, proofs.Bools.and-parts, proofs.BelowLaws.{nth-says, nth-none}}
 use Rattle.igvm_defs.{specs.declared.Refusal.Refusal, specs.Refusals.{noFault, isRefusal, inRow}, proofs.RefusalLaws.row-refusal}
 use Rattle.sheet.{specs.Head.Limits, specs.Read.{Readable, sheetRefusal}, proofs.Readable.sheet-says}
-use Rattle.rules.{specs.declared.PageTableRegion.PageTableRegion, specs.Relocations.regionCount, proofs.FaultLaws.{refuse-none, else-none}}
+use Rattle.masks.specs.Masks.{matches}
+use Rattle.initialization_header.{specs.declared.IgvmInitializationHeader.IgvmInitializationHeader, specs.Fields.{initializationFields, kindNumber}}
+use Rattle.rules.{specs.declared.PageTableRegion.PageTableRegion, specs.Relocations.{isRelocatable, relocatableOf, regionCount, regionAt}, specs.Options.then, proofs.FaultLaws.{refuse-none, else-none}}
 use Rattle.answers.specs.{Verdict.verdictRefusal, Relocations.{sheetInitializations, maskFault, wordsFault, relocationsRefusal, foundOf}}
 
 -- an accepted sheet is readable
@@ -13,6 +15,24 @@ accepted-readable l s v = sheet-says l s .0 (else-none (sheetRefusal l s) _ .0 v
 -- how many regions the mask has
 abbrev pub regionsOf : List ℕ → ℕ → ℕ
 regionsOf s given = regionCount (sheetInitializations s) given
+
+-- the mask has a region of each number below the count
+pub region-there : (s : List ℕ) (given k : ℕ) → k < regionsOf s given → regionAt (sheetInitializations s) given k ≡ none → ⊥
+unfolding regionAt regionCount
+region-there s given k l e = go (nthBelow (xs .count) p k) refl e
+  where
+    xs : Rows IgvmInitializationHeader
+    xs = sheetInitializations s
+
+    p : ℕ → Bool
+    p = λ i. isRelocatable given (xs .row i)
+
+    go : (o : Option ℕ) → nthBelow (xs .count) p k ≡ o → then (rowAt xs o) relocatableOf ≡ none → ⊥
+    go none q n = let m = nth-none (xs .count) p k q in omega arith
+    go (some i) q n =
+        let (_, t, _) = nth-says (xs .count) p k i q in
+        let (kind, _) = and-parts (eqb (kindNumber (xs .row i)) 18) (matches given (initializationFields (xs .row i) .mask)) t in
+        false≢true (cc (rw kind at n))
 
 -- a region list that is not refused: the file is accepted, the mask is not 0, and there is room for the words
 pub list-says : (l : Limits) (s : List ℕ) (given bytes : ℕ) → isRefusal (relocationsRefusal l s given bytes) ≡ false

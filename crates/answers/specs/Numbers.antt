@@ -5,6 +5,7 @@ use mathlib.Core.List.{List, [], _∷_}
 use lib.ListN.{getD}
 use Rattle.answers.specs.declared.Verdict.{Verdict}
 use Rattle.answers.specs.declared.Relocations.{Relocations}
+use Rattle.answers.specs.declared.Answered.{Answered}
 use Rattle.answers.specs.declared.Checked.{Checked}
 
 -- number `which` of an answer; 0 where the answer has no such number
@@ -37,6 +38,10 @@ relocationNumbers a =
     ∷ a .«page_table» .vtl
     ∷ []
 
--- 0 number, 1 row, 2 detail, 3 valid or contained (1 or 0)
+-- 0 number, 1 row, 2 detail, 3 the number of a named answer
+abbrev pub answerNumbers : Answered → List ℕ
+answerNumbers a = a .refusal .number ∷ a .refusal .row ∷ a .refusal .detail ∷ a .answer ∷ []
+
+-- 0 number, 1 row, 2 detail, 3 contained (1 or 0)
 abbrev pub checkNumbers : Checked → List ℕ
 checkNumbers a = a .refusal .number ∷ a .refusal .row ∷ a .refusal .detail ∷ cond (a .holds) 1 0 ∷ []

@@ -7,8 +7,8 @@ use lib.Dec.{leb}
 use lib.ListN.{length}
 use Rattle.le.specs.Le.{leAt}
 use Rattle.rules.specs.declared.IgvmRelocatableRegion.{IgvmRelocatableRegion}
-use Rattle.rules.specs.Relocations.{regionContains, relocationBaseValid}
-use Rattle.answers.specs.Relocations.{testRegion}
+use Rattle.rules.specs.Relocations.{regionContains}
+use Rattle.answers.specs.Relocations.{testRegion, answerFor, baseNumber}
 
 -- the region that the first eight words say; none in fewer than 64 bytes
 unfoldable pub regionOf : List ℕ → Option IgvmRelocatableRegion
@@ -30,9 +30,9 @@ regionOf b =
 unfoldable pub regionCheckOf : (IgvmRelocatableRegion → Bool) → List ℕ → ℕ
 regionCheckOf p b = cond (testRegion p (regionOf b)) 1 0
 
--- whether the region may be moved to a base
+-- the number of what is said of moving the region to a base; 0 where there is no region
 abbrev pub regionBaseCheckOf : List ℕ → ℕ → ℕ
-regionBaseCheckOf b base = regionCheckOf (λ r. relocationBaseValid r base) b
+regionBaseCheckOf b base = answerFor (baseNumber base) (regionOf b)
 
 -- whether an address lies in the region
 abbrev pub regionContainsOf : List ℕ → ℕ → ℕ

@@ -14,9 +14,11 @@ use Rattle.initialization_header.specs.declared.IgvmInitializationHeader.{IgvmI
 use Rattle.sheet_headers.specs.Headers.{sheetHeaders}
 use Rattle.rules.specs.declared.IgvmRelocatableRegion.{IgvmRelocatableRegion}
 use Rattle.rules.specs.declared.PageTableRegion.{PageTableRegion}
-use Rattle.rules.specs.Relocations.{regionCount, regionAt, pageTableAt, wordsOf, regionContains, relocationBaseValid}
+use Rattle.rules.specs.Relocations.{regionCount, regionAt, pageTableAt, wordsOf, regionContains, relocationBaseCheck}
+use Rattle.addresses.specs.BaseChecks.{checkNumber}
 use Rattle.lent.specs.Lent.{rowsPut}
 use Rattle.answers.specs.declared.Relocations.{Relocations}
+use Rattle.answers.specs.declared.Answered.{Answered}
 use Rattle.answers.specs.declared.Checked.{Checked}
 use Rattle.answers.specs.Verdict.{verdictRefusal}
 
@@ -85,10 +87,28 @@ checkOf p l s given region =
       holds = cond (isRefusal (checkRefusal l s given region)) false (testRegion p (regionAt (sheetInitializations s) given region));
     }
 
--- whether a region may be moved to a base
-abbrev pub baseCheckOf : Limits → List ℕ → ℕ → ℕ → ℕ → Checked
-baseCheckOf l s given region base = checkOf (λ r. relocationBaseValid r base) l s given region
-
 -- whether an address lies in a region
 abbrev pub containsOf : Limits → List ℕ → ℕ → ℕ → ℕ → Checked
 containsOf l s given region gpa = checkOf (λ r. regionContains r gpa) l s given region
+
+-- ---- a named answer about one region, by its number: the answers count from 1, and 0 stands in a refusal
+
+-- of a region that was looked for
+abbrev pub answerFor : (IgvmRelocatableRegion → ℕ) → Option IgvmRelocatableRegion → ℕ
+answerFor f none = 0
+answerFor f (some r) = f r
+
+unfoldable pub answerOf : (IgvmRelocatableRegion → ℕ) → Limits → List ℕ → ℕ → ℕ → Answered
+answerOf f l s given region =
+    record {
+      refusal = checkRefusal l s given region;
+      answer = cond (isRefusal (checkRefusal l s given region)) 0 (answerFor f (regionAt (sheetInitializations s) given region));
+    }
+
+-- the number of what is said of moving a region to a base
+abbrev pub baseNumber : ℕ → IgvmRelocatableRegion → ℕ
+baseNumber base r = checkNumber (relocationBaseCheck r base)
+
+-- whether a region may be moved to a base, or why not
+abbrev pub baseCheckOf : Limits → List ℕ → ℕ → ℕ → ℕ → Answered
+baseCheckOf l s given region base = answerOf (baseNumber base) l s given region

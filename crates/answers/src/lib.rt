@@ -19,7 +19,13 @@ pub struct Relocations {
     pub page_table: PageTableRegion,
 }
 
-// Whether the base is valid, or the address contained; no where the call is refused.
+// The number of a named answer, from 1; 0 where the call is refused.
+pub struct Answered {
+    pub refusal: Refusal,
+    pub answer: u64,
+}
+
+// Whether the address is contained; no where the call is refused.
 pub struct Checked {
     pub refusal: Refusal,
     pub holds: bool,

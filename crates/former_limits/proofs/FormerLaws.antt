@@ -3,7 +3,7 @@ use Rattle.rows.{proofs.Kit.{_≡_, refl, Bool, true, false, cond, List, _⊎_,
 use Rattle.igvm_defs.specs.Refusals.{fault, isFault, isRefusal, inRow, orElse}
 use Rattle.lent.proofs.LentLaws.{rows-none}
 use Rattle.sheet.{specs.Head.{Limits, headOf, layoutOk, withinLimits, startFault}, specs.Read.{readRefusal, sheetRefusal}}
-use Rattle.answers.{specs.Verdict.{verdictRefusal, verdictOf}, specs.Relocations.{relocationsRefusal, relocationsOf, wordsAfter, checkRefusal, checkOf}}
+use Rattle.answers.{specs.Verdict.{verdictRefusal, verdictOf}, specs.Relocations.{relocationsRefusal, relocationsOf, wordsAfter, checkRefusal, checkOf, answerOf}}
 use Rattle.admission.specs.Admission.{admitOf}
 use Rattle.former_limits.specs.Former.{Within, Over, SameAnswers, overLimit, RefusedBy3}
 
@@ -16,7 +16,7 @@ same-refusal l k s e = rw e
 
 -- and then every answer is the same
 pub same-answers : (l k : Limits) (s : List ℕ) → verdictRefusal l s ≡ verdictRefusal k s → SameAnswers l k s
-unfolding verdictOf relocationsRefusal relocationsOf wordsAfter checkRefusal checkOf admitOf
+unfolding verdictOf relocationsRefusal relocationsOf wordsAfter checkRefusal checkOf answerOf admitOf
 same-answers l k s e =
     record {
       verdict = rw e;
@@ -39,7 +39,7 @@ cond-both false x = refl
 
 -- and then every call is refused by it, and no row is put into the lent bytes
 pub refused-by-3 : (l : Limits) (s : List ℕ) → verdictRefusal l s ≡ overLimit → RefusedBy3 l s
-unfolding isRefusal orElse verdictOf relocationsRefusal relocationsOf wordsAfter checkRefusal checkOf admitOf
+unfolding isRefusal orElse verdictOf relocationsRefusal relocationsOf wordsAfter checkRefusal checkOf answerOf admitOf
 refused-by-3 l s e =
     record {
       verdict = rw e;

@@ -12,6 +12,7 @@ use Rattle.igvm_defs.specs.Refusals.{refusal}
 use Rattle.sheet.specs.Head.{Limits, limits, headOf, withinLimits}
 use Rattle.sheet.specs.Read.{Readable}
 use Rattle.answers.specs.declared.Verdict.{Verdict}
+use Rattle.answers.specs.declared.Answered.{Answered}
 use Rattle.answers.specs.declared.Checked.{Checked}
 use Rattle.answers.specs.Verdict.{verdictOf}
 use Rattle.answers.specs.Relocations.{relocationsOf, wordsAfter, baseCheckOf, containsOf, foundOf}
@@ -53,6 +54,9 @@ overLimit = refusal 3 0 0
 abbrev pub verdict3 : Verdict
 verdict3 = record { refusal = overLimit; platforms = 0; initializations = 0; directives = 0 }
 
+abbrev pub answer3 : Answered
+answer3 = record { refusal = overLimit; answer = 0 }
+
 abbrev pub check3 : Checked
 check3 = record { refusal = overLimit; holds = false }
 
@@ -61,7 +65,7 @@ pub record RefusedBy3 (l : Limits) (s : List ℕ) : Type 0 where
   pub verdict : verdictOf l s ≡ verdict3
   pub relocations : (given bytes : ℕ) → relocationsOf l s given bytes ≡ foundOf 0 none overLimit
   pub words : (given : ℕ) (b : List ℕ) → wordsAfter l s given b ≡ b
-  pub base : (given region base : ℕ) → baseCheckOf l s given region base ≡ check3
+  pub base : (given region base : ℕ) → baseCheckOf l s given region base ≡ answer3
   pub contains : (given region gpa : ℕ) → containsOf l s given region gpa ≡ check3
   pub line : admitLine l s ≡ lineOf verdict3
 

@@ -7,7 +7,7 @@ ghost use Rattle.sheet.specs.Head.{limits};
 ghost use Rattle.answers.specs.Verdict.{verdictOf};
 ghost use Rattle.answers.specs.Relocations.{relocationsOf, wordsAfter, baseCheckOf, containsOf};
 ghost use Rattle.answers.specs.Region.{regionBaseCheckOf, regionContainsOf};
-ghost use Rattle.answers.specs.Numbers.{numberOf, verdictNumbers, relocationNumbers, checkNumbers};
+ghost use Rattle.answers.specs.Numbers.{numberOf, verdictNumbers, relocationNumbers, answerNumbers, checkNumbers};
 
 // ---- the verdict: 0 number, 1 row, 2 detail, 3 platform rows, 4 initialization rows, 5 directive rows
 
@@ -69,13 +69,13 @@ pub extern "C" fn igvm_relocations_numbers(
     region_list(sheet, mask, words, 0, numbers)
 }
 
-// ---- the base check: 0 number, 1 row, 2 detail, 3 valid (1 or 0)
+// ---- the base check: 0 number, 1 row, 2 detail, 3 the answer: 1 valid, 2 unaligned, 3 below the minimum, 4 above the maximum
 
 fn base_check(sheet: &[u8], mask: u32, region: u64, base: u64, which: u32, lent: &mut [u8]) -> u64
-    ensures { λ r. ⌜ r ≡ numberOf which (checkNumbers (baseCheckOf limits (now (sheet .entry)) mask region base)) ⌝ }
-    ensures { λ _. ⌜ now (lent .exit) ≡ numbersPut (checkNumbers (baseCheckOf limits (now (sheet .entry)) mask region base)) (now (lent .entry)) ⌝ }
+    ensures { λ r. ⌜ r ≡ numberOf which (answerNumbers (baseCheckOf limits (now (sheet .entry)) mask region base)) ⌝ }
+    ensures { λ _. ⌜ now (lent .exit) ≡ numbersPut (answerNumbers (baseCheckOf limits (now (sheet .entry)) mask region base)) (now (lent .entry)) ⌝ }
 {
-    let found = numbers::check_numbers(relocations::relocation_base_valid(
+    let found = numbers::answer_numbers(relocations::relocation_base_valid(
         sheet,
         mask,
         region,
@@ -92,7 +92,7 @@ pub extern "C" fn igvm_relocation_base_valid(
     base: u64,
     which: u32,
 ) -> u64
-    ensures { λ r. ⌜ r ≡ numberOf which (checkNumbers (baseCheckOf limits (now (sheet .entry)) mask region base)) ⌝ }
+    ensures { λ r. ⌜ r ≡ numberOf which (answerNumbers (baseCheckOf limits (now (sheet .entry)) mask region base)) ⌝ }
 {
     let mut none: [u8; 0] = [];
     base_check(sheet, mask, region, base, which, &mut none)
@@ -106,8 +106,8 @@ pub extern "C" fn igvm_relocation_base_valid_numbers(
     base: u64,
     numbers: &mut [u8],
 ) -> u64
-    ensures { λ r. ⌜ r ≡ numberOf 0 (checkNumbers (baseCheckOf limits (now (sheet .entry)) mask region base)) ⌝ }
-    ensures { λ _. ⌜ now (numbers .exit) ≡ numbersPut (checkNumbers (baseCheckOf limits (now (sheet .entry)) mask region base)) (now (numbers .entry)) ⌝ }
+    ensures { λ r. ⌜ r ≡ numberOf 0 (answerNumbers (baseCheckOf limits (now (sheet .entry)) mask region base)) ⌝ }
+    ensures { λ _. ⌜ now (numbers .exit) ≡ numbersPut (answerNumbers (baseCheckOf limits (now (sheet .entry)) mask region base)) (now (numbers .entry)) ⌝ }
 {
     base_check(sheet, mask, region, base, 0, numbers)
 }
@@ -144,7 +144,7 @@ pub extern "C" fn igvm_contains_numbers(
     address_check(sheet, mask, region, gpa, 0, numbers)
 }
 
-// ---- the same checks on a region's eight words, as the region list puts them, without the sheet: 1 or 0
+// ---- the same checks on a region's eight words, as the region list puts them, without the sheet: number 3 alone
 
 #[no_mangle]
 pub extern "C" fn igvm_region_base_valid(region: &[u8], base: u64) -> u64

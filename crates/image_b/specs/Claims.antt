@@ -1,4 +1,5 @@
--- What document 01 claims of image B, as one table: the change of B, the question and the answer. The theorem is in proofs/ImageB.antt.
+-- What document 01 claims of image B, as one table: the change of B, the question and the answer, of a base with the reason that request 7 gives. Beside it what
+-- reading finds, and what is said of bases. The theorem is in proofs/ImageB.antt.
 use Prim.Native.Nat.{ℕ, zero, suc, _+_, _/_, _%_}
 use mathlib.Core.Path.{_≡_}
 use mathlib.Core.Bool.{cond}
@@ -7,6 +8,9 @@ use lib.ListN.{set, take, drop}
 use Rattle.igvm_defs.specs.declared.Refusal.{Refusal}
 use Rattle.igvm_defs.specs.Refusals.{isRefusal}
 use Rattle.sheet.specs.Head.{limits}
+use Rattle.addresses.specs.declared.BaseCheck.the-variants.{Valid, AboveMaximum}
+use Rattle.addresses.specs.BaseChecks.{checkNumber}
+use Rattle.answers.specs.declared.Answered.{Answered}
 use Rattle.answers.specs.declared.Checked.{Checked}
 use Rattle.answers.specs.Verdict.{verdictRefusal}
 use Rattle.answers.specs.Relocations.{baseCheckOf, containsOf}
@@ -35,6 +39,12 @@ gpa v = put 8 68 v
 abbrev pub size : ℕ → List ℕ → List ℕ
 size v = put 8 76 v
 
+abbrev pub minimum : ℕ → List ℕ → List ℕ
+minimum v = put 8 84 v
+
+abbrev pub maximum : ℕ → List ℕ → List ℕ
+maximum v = put 8 92 v
+
 abbrev pub vp : ℕ → List ℕ → List ℕ
 vp v = put 2 101 v
 
@@ -49,7 +59,7 @@ secondRegion v s = part 0 10 s ++ 2 ∷ 0 ∷ [] ++ part 12 32 s ++ part 24 104 
 
 pub data Question : Type 0 where
   verdict : Question
-  -- may region 0 of mask 1 be moved to this base
+  -- may region 0 of mask 1 be moved to this base, or why not
   base : ℕ → Question
   -- does this address lie in region 0 of mask 1
   contains : ℕ → Question
@@ -58,6 +68,8 @@ pub data Answer : Type 0 where
   accepted : Answer
   -- number, row, detail
   refused : ℕ → ℕ → ℕ → Answer
+  -- the number of a named answer
+  answered : ℕ → Answer
   yes : Answer
   no : Answer
 
@@ -65,13 +77,16 @@ pub data Answer : Type 0 where
 abbrev pub refusalOr : Refusal → Answer → Answer
 refusalOr r answer = cond (isRefusal r) (refused (r .number) (r .row) (r .detail)) answer
 
+abbrev pub answerSays : Answered → Answer
+answerSays a = refusalOr (a .refusal) (answered (a .answer))
+
 abbrev pub checkSays : Checked → Answer
 checkSays c = refusalOr (c .refusal) (cond (c .holds) yes no)
 
 -- what the definitions of the calls' answers say of a sheet
 abbrev pub says : Question → List ℕ → Answer
 says verdict s = refusalOr (verdictRefusal limits s) accepted
-says (base x) s = checkSays (baseCheckOf limits s 1 0 x)
+says (base x) s = answerSays (baseCheckOf limits s 1 0 x)
 says (contains x) s = checkSays (containsOf limits s 1 0 x)
 
 -- ---- the table
@@ -95,8 +110,8 @@ claims =
     ∷ claim (secondRegion 0x101000) verdict (refused 29 3 0)
     ∷ claim (mask 3) verdict accepted
     ∷ claim (vp 1) verdict (refused 34 0 0)
-    ∷ claim unchanged (base 0x1FE000) yes
-    ∷ claim unchanged (base 0x1FF000) no
+    ∷ claim unchanged (base 0x1FE000) (answered (checkNumber Valid))
+    ∷ claim unchanged (base 0x1FF000) (answered (checkNumber AboveMaximum))
     ∷ claim unchanged (contains 0x101FFF) yes
     ∷ claim unchanged (contains 0x102000) no
     ∷ []
@@ -160,6 +175,26 @@ readings =
     ∷ claim length200 verdict (refused 5 2 0)
     ∷ claim (λ s. vtl3 (kind0InRow3 s)) verdict (refused 5 2 0)
     ∷ claim (λ s. byteMore (pages8192 s)) verdict (refused 6 0 0)
+    ∷ []
+
+-- ---- bases: each of 1 to 4, and which comes first where several apply
+
+abbrev pub bases : List Claim
+bases =
+    claim (minimum 0x100000) (base 0x100000) (answered 1)
+    ∷ claim (minimum 0x100000) (base 0x100800) (answered 2)
+    ∷ claim (minimum 0x100000) (base 0xFF000) (answered 3)
+    ∷ claim (minimum 0x100000) (base 0x1FF000) (answered 4)
+    -- unaligned and below the minimum, unaligned and above the maximum
+    ∷ claim (minimum 0x100000) (base 0xFF800) (answered 2)
+    ∷ claim (minimum 0x100000) (base 0x1FF800) (answered 2)
+    -- below the minimum and above the maximum, and unaligned besides
+    ∷ claim (λ s. minimum 0x200000 (maximum 0x100000 s)) (base 0x1FF000) (answered 3)
+    ∷ claim (λ s. minimum 0x200000 (maximum 0x100000 s)) (base 0x1FF800) (answered 2)
+    -- sums of 2^64 - 0x1000, 2^64 and 2^64 + 0x1000
+    ∷ claim (maximum 0xFFFFFFFFFFFFF000) (base 0xFFFFFFFFFFFFD000) (answered 1)
+    ∷ claim (maximum 0xFFFFFFFFFFFFF000) (base 0xFFFFFFFFFFFFE000) (answered 4)
+    ∷ claim (maximum 0xFFFFFFFFFFFFF000) (base 0xFFFFFFFFFFFFF000) (answered 4)
     ∷ []
 
 -- every claim of the table is true

@@ -2,7 +2,8 @@
 ghost use mathlib.Core.Path.{_≡_};
 ghost use mathlib.Core.Bool.{cond};
 ghost use Rattle.lent.specs.Lent.{numbersPut};
-ghost use Rattle.answers.specs.Numbers.{numberOf, verdictNumbers, relocationNumbers, checkNumbers};
+ghost use Rattle.answers.specs.Numbers.{numberOf, verdictNumbers, relocationNumbers, answerNumbers, checkNumbers};
+use answers::Answered;
 use answers::Checked;
 use answers::Relocations;
 use answers::Verdict;
@@ -93,6 +94,13 @@ pub fn relocation_numbers(a: Relocations) -> [u64; 10]
         t.vp_index,
         t.vtl,
     ]
+}
+
+pub fn answer_numbers(a: Answered) -> [u64; 4]
+    ensures { λ r. ⌜ r ≡ answerNumbers a ⌝ }
+{
+    let refusal = a.refusal;
+    [refusal.number, refusal.row, refusal.detail, a.answer]
 }
 
 pub fn check_numbers(a: Checked) -> [u64; 4]

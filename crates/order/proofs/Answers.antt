@@ -5,7 +5,7 @@ use Rattle.igvm_defs.{specs.declared.Refusal.Refusal, specs.Refusals.isRefusal,
 use Rattle.lent.proofs.LentLaws.{same-words}
 use Rattle.sheet.specs.Head.{Limits}
 use Rattle.rules.{specs.declared.IgvmRelocatableRegion.IgvmRelocatableRegion, specs.declared.PageTableRegion.PageTableRegion, specs.Relocations.{regionAt, pageTableAt}}
-use Rattle.answers.{proofs.AnswerLaws.{regionsOf, list-says, found-count}, specs.Verdict.verdictRefusal, specs.Relocations.{sheetInitializations, wordsFault, relocationsRefusal, foundOf, relocationsOf, regionWords, wordsAfter, regionFault, checkRefusal, checkOf}}
+use Rattle.answers.{proofs.AnswerLaws.{regionsOf, list-says, found-count}, specs.Verdict.verdictRefusal, specs.Relocations.{sheetInitializations, wordsFault, relocationsRefusal, foundOf, relocationsOf, regionWords, wordsAfter, regionFault, checkRefusal, answerOf}}
 use Rattle.order.specs.Demand.{Accepted}
 
 -- ---- the region list
@@ -55,9 +55,9 @@ module _ (l : Limits) (a b : List ℕ) (va : Accepted l a) (vb : Accepted l b) (
       (same-words (regionsOf a given) (regionsOf b given) _ _ x y (omega arith) (omega arith) n m k ln lm lk (ap regionWords e))
 
   -- ---- checks on one region
-  pub check-same : (p : IgvmRelocatableRegion → Bool) (n m : ℕ) → n < regionsOf a given → m < regionsOf b given
-      → regionAt (sheetInitializations a) given n ≡ regionAt (sheetInitializations b) given m → checkOf p l a given n ≡ checkOf p l b given m
-  unfolding checkOf checkRefusal regionFault
-  check-same p n m ln lm e =
+  pub answer-same : (f : IgvmRelocatableRegion → ℕ) (n m : ℕ) → n < regionsOf a given → m < regionsOf b given
+      → regionAt (sheetInitializations a) given n ≡ regionAt (sheetInitializations b) given m → answerOf f l a given n ≡ answerOf f l b given m
+  unfolding answerOf checkRefusal regionFault
+  answer-same f n m ln lm e =
       rw (orElse-later (verdictRefusal l a) _ va, orElse-later (verdictRefusal l b) _ vb)
       (rw (lt-ltb n (regionsOf a given) ln, lt-ltb m (regionsOf b given) lm, e))

@@ -5,7 +5,7 @@ use Rattle.sheet_headers.specs.Headers.{sheetHeaders}
 use Rattle.rules.{specs.Accepted.NotRefused, specs.Relocations.regionAt, proofs.FaultLaws.else-none, proofs.Order.same-answers, proofs.QueryLaws.number-below, proofs.SoundLaws.accepted-sound}
 use Rattle.answers.{proofs.AnswerLaws.regionsOf, specs.Verdict.verdictRefusal, specs.Relocations.sheetInitializations}
 use Rattle.order.specs.{Reordered.Reordered, Demand.{Accepted, IsRegion, numberIn, SameAnswers}}
-use Rattle.order.proofs.{ReadableToo.{heads, readable-too}, Lists.{paired-in, headers-reordered}, Answers.{list-same, words-same, check-same}}
+use Rattle.order.proofs.{ReadableToo.{heads, readable-too}, Lists.{paired-in, headers-reordered}, Answers.{list-same, words-same, answer-same}}
 use Rattle.rules.specs.Reordered as rules
 
 -- the headers of an accepted sheet meet none of 8 to 34
@@ -38,7 +38,7 @@ demand-3 l a b ok R =
       words = λ v given i r.
           words-same l a b v (there v) given (S .count given) _ _ (number-in a given i r) (number-in b given _ (region given i r)) (found given i r);
       base = λ v given i r base.
-          check-same l a b v (there v) given (S .count given) _ _ _ (number-in a given i r) (number-in b given _ (region given i r)) (found given i r);
+          answer-same l a b v (there v) given (S .count given) _ _ _ (number-in a given i r) (number-in b given _ (region given i r)) (found given i r);
       sound = λ v. (accepted-sound (sheetHeaders a) (accepted-headers l a v), accepted-sound (sheetHeaders b) (accepted-headers l b (there v)));
     }
   where

@@ -46,7 +46,7 @@ pub record SameAnswers (l : Limits) (a b : List ℕ) (R : Reordered a b) : Type 
       → isRefusal (relocationsOf l a given (length x) .refusal) ≡ false → (k : ℕ) → k < 8
       → leAt 8 (wordsAfter l a given x) (64 * numberIn a given i + 8 * k)
       ≡ leAt 8 (wordsAfter l b given y) (64 * numberIn b given (R .initializations .to i) + 8 * k)
-  -- the base check of paired regions, each by its number in its own run, says the same for every base
+  -- The base check of paired regions, each by its number in its own run, gives the same answer for every base: the reason too, where it is turned down.
   pub base : Accepted l a → (given i : ℕ) → IsRegion a given i → (base : ℕ)
       → baseCheckOf l a given (numberIn a given i) base ≡ baseCheckOf l b given (numberIn b given (R .initializations .to i)) base
   -- for every nonzero mask no address lies in two of its regions, and each has VP index 0 and a VBS context of its VTL sharing a mask bit with it

@@ -1,8 +1,8 @@
--- What is answered of bytes that are no region, and of those that are.
-use Rattle.rows.proofs.Kit.{ℕ, _≤_, _<_, _≡_, refl, Bool, cond, List, length, lt-leb, le-leb}
+-- Bytes that are no region, and those that are.
+use Rattle.rows.proofs.Kit.{ℕ, _≤_, _<_, _≡_, List, none, some, length, lt-leb, le-leb}
 use Rattle.le.specs.Le.{leAt}
 use Rattle.rules.specs.declared.IgvmRelocatableRegion.{IgvmRelocatableRegion}
-use Rattle.answers.specs.Region.{regionOf, regionCheckOf}
+use Rattle.answers.specs.Region.{regionOf}
 
 -- the region that eight words say
 abbrev pub said : List ℕ → IgvmRelocatableRegion
@@ -18,10 +18,10 @@ said b =
       vtl = leAt 8 b 56;
     }
 
-pub no-region : (p : IgvmRelocatableRegion → Bool) (b : List ℕ) → length b < 64 → regionCheckOf p b ≡ 0
-unfolding regionCheckOf regionOf
-no-region p b l = rw (lt-leb 64 (length b) l)
+pub no-region : (b : List ℕ) → length b < 64 → regionOf b ≡ none
+unfolding regionOf
+no-region b l = rw (lt-leb 64 (length b) l)
 
-pub a-region : (p : IgvmRelocatableRegion → Bool) (b : List ℕ) → 64 ≤ length b → regionCheckOf p b ≡ cond (p (said b)) 1 0
-unfolding regionCheckOf regionOf
-a-region p b l = rw (le-leb 64 (length b) l)
+pub a-region : (b : List ℕ) → 64 ≤ length b → regionOf b ≡ some (said b)
+unfolding regionOf
+a-region b l = rw (le-leb 64 (length b) l)

@@ -7,7 +7,7 @@ use Rattle.le.specs.Le.{byteAt}
 use Rattle.sheet.specs.Head.{Limits}
 use Rattle.answers.specs.Relocations.{relocationsOf, wordsAfter, baseCheckOf, containsOf}
 use Rattle.answers.specs.Region.{regionBaseCheckOf, regionContainsOf}
-use Rattle.answers.specs.Numbers.{checkNumbers}
+use Rattle.answers.specs.Numbers.{answerNumbers, checkNumbers}
 
 -- every item is a byte
 abbrev pub Bytes : List ℕ → Type 0
@@ -21,5 +21,5 @@ wordsOfRegion k b = take 64 (drop (64 * k) b)
 abbrev pub Agreement : Limits → Type 0
 Agreement l =
     (s : List ℕ) → Bytes s → (given : ℕ) (b : List ℕ) (k : ℕ) → k < relocationsOf l s given (length b) .count
-    → ((base : ℕ) → checkNumbers (baseCheckOf l s given k base) ≡ 0 ∷ 0 ∷ 0 ∷ regionBaseCheckOf (wordsOfRegion k (wordsAfter l s given b)) base ∷ [])
+    → ((base : ℕ) → answerNumbers (baseCheckOf l s given k base) ≡ 0 ∷ 0 ∷ 0 ∷ regionBaseCheckOf (wordsOfRegion k (wordsAfter l s given b)) base ∷ [])
     × ((gpa : ℕ) → checkNumbers (containsOf l s given k gpa) ≡ 0 ∷ 0 ∷ 0 ∷ regionContainsOf (wordsOfRegion k (wordsAfter l s given b)) gpa ∷ [])

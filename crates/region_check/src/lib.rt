@@ -2,7 +2,7 @@
 ghost use mathlib.Core.Path.{_≡_};
 ghost use Rattle.answers.specs.Region.{regionBaseCheckOf, regionContainsOf};
 
-// Whether the region may be moved to the base, 1 or 0.
+// The number of what is said of moving the region to the base; 0 where there is no region.
 pub fn base_valid(b: &[u8], base: u64) -> u64
     ensures { λ r. ⌜ r ≡ regionBaseCheckOf (now (b .entry)) base ⌝ }
 {
@@ -13,10 +13,7 @@ pub fn base_valid(b: &[u8], base: u64) -> u64
     let alignment = le::u64_at(b, 16);
     let minimum = le::u64_at(b, 24);
     let maximum = le::u64_at(b, 32);
-    if addresses::base_valid(alignment, size, minimum, maximum, base) {
-        return 1;
-    }
-    0
+    addresses::base_check(alignment, size, minimum, maximum, base).number()
 }
 
 // Whether the address lies in the region, 1 or 0.

@@ -1,11 +1,11 @@
 -- What the calls answer where one of their refusals applies, and where none does.
-use Rattle.rows.{proofs.Kit.{inl, inr, _≡_, refl, ap, sym, _∙_, Bool, true, false, _&&_, List, Option, none, some, ℕ, zero, suc, _*_, _/_, _≤_, _<_, arith, ltb, length}, proofs.Bools.{which, or-false-parts, ltb-same}}
+use Rattle.rows.{proofs.Kit.{inl, inr, _≡_, refl, ap, sym, _∙_, Bool, true, false, true≢false, false≢true, _&&_, List, Option, none, some, ℕ, zero, suc, _*_, _/_, _≤_, _<_, arith, ltb, length}, proofs.Bools.{which, or-false-parts, ltb-same}}
 use Rattle.igvm_defs.{specs.declared.Refusal.Refusal, specs.Refusals.{noRefusal, isRefusal, inRow, orElse}, proofs.RefusalLaws.{orElse-first, orElse-later, else-refusal, row-refusal, no-fault-row}}
 use Rattle.lent.{specs.Lent.rowsPut, proofs.LentLaws.rows-none}
 use Rattle.sheet.{specs.Head.{Limits, limits, headOf}, specs.Read.Readable, proofs.Readable.readable-bounds}
 use Rattle.sheet_headers.specs.Headers.{sheetHeaders}
 use Rattle.rules.{specs.Relocations.{regionAt, pageTableAt}, specs.declared.IgvmRelocatableRegion.IgvmRelocatableRegion, specs.declared.PageTableRegion.PageTableRegion}
-use Rattle.answers.{proofs.AnswerLaws.{regionsOf, accepted-readable, list-says, found-count}, specs.declared.Checked.Checked, specs.Verdict.verdictRefusal, specs.Relocations.{sheetInitializations, maskFault, wordsFault, relocationsRefusal, foundOf, relocationsOf, regionWords, wordsAfter, regionFault, checkRefusal, testRegion, checkOf}}
+use Rattle.answers.{proofs.AnswerLaws.{regionsOf, accepted-readable, list-says, found-count}, specs.declared.Answered.Answered, specs.declared.Checked.Checked, specs.Verdict.verdictRefusal, specs.Relocations.{sheetInitializations, maskFault, wordsFault, relocationsRefusal, foundOf, relocationsOf, regionWords, wordsAfter, regionFault, checkRefusal, testRegion, checkOf, answerFor, answerOf}}
 use Rattle.initialization_check.specs.declared.RelocRegions.{RelocRegions}
 use Rattle.keep.specs.Kept.{Kept}
 use Rattle.regions.{specs.declared.FoundRegion.FoundRegion, specs.declared.FoundTable.FoundTable, specs.Found.{foundRegion, foundTable}}
@@ -14,10 +14,21 @@ use Rattle.relocations.specs.Query.{queryRefusal}
 abbrev pub checked : Refusal → Bool → Checked
 checked refusal holds = record { refusal = refusal; holds = holds }
 
+abbrev pub answered : Refusal → ℕ → Answered
+answered refusal answer = record { refusal = refusal; answer = answer }
+
 -- what the code holds of a region or a table that was looked for
 found-test : (p : IgvmRelocatableRegion → Bool) (o : Option IgvmRelocatableRegion) → (foundRegion o .found && p (foundRegion o .region)) ≡ testRegion p o
 found-test p none = refl
 found-test p (some r) = refl
+
+none-found : (f : IgvmRelocatableRegion → ℕ) (o : Option IgvmRelocatableRegion) → foundRegion o .found ≡ false → answerFor f o ≡ 0
+none-found f none e = refl
+none-found f (some r) e = absurd (true≢false e)
+
+found-answers : (f : IgvmRelocatableRegion → ℕ) (o : Option IgvmRelocatableRegion) → foundRegion o .found ≡ true → answerFor f o ≡ f (foundRegion o .region)
+found-answers f none e = absurd (false≢true e)
+found-answers f (some r) e = refl
 
 pub found-table : (n : ℕ) (o : Option PageTableRegion) (t : FoundTable) → t ≡ foundTable o
     → record { refusal = noRefusal; count = n; «has_page_table» = t .found; «page_table» = t .table } ≡ foundOf n o noRefusal
@@ -124,3 +135,22 @@ module _ (l : Limits) (s : List ℕ) (given : ℕ) where
       → checked (checkRefusal l s given region) (r .found && p (r .region)) ≡ checkOf p l s given region
   unfolding checkOf
   check-holds p region r h e = rw (h, e) (ap (checked (checkRefusal l s given region)) (found-test p (regionAt (sheetInitializations s) given region)))
+
+  -- ---- a named answer of one region
+
+  pub answer-refused : (f : IgvmRelocatableRegion → ℕ) (region : ℕ) → isRefusal (checkRefusal l s given region) ≡ true
+      → answered (checkRefusal l s given region) 0 ≡ answerOf f l s given region
+  unfolding answerOf
+  answer-refused f region h = rw h
+
+  pub answer-none : (f : IgvmRelocatableRegion → ℕ) (region : ℕ) (r : FoundRegion) → isRefusal (checkRefusal l s given region) ≡ false
+      → r ≡ foundRegion (regionAt (sheetInitializations s) given region) → r .found ≡ false
+      → answered (checkRefusal l s given region) 0 ≡ answerOf f l s given region
+  unfolding answerOf
+  answer-none f region r h e n = rw (h, none-found f (regionAt (sheetInitializations s) given region) (rw e at n))
+
+  pub answer-given : (f : IgvmRelocatableRegion → ℕ) (region : ℕ) (r : FoundRegion) → isRefusal (checkRefusal l s given region) ≡ false
+      → r ≡ foundRegion (regionAt (sheetInitializations s) given region) → r .found ≡ true
+      → answered (checkRefusal l s given region) (f (r .region)) ≡ answerOf f l s given region
+  unfolding answerOf
+  answer-given f region r h e n = rw (h, found-answers f (regionAt (sheetInitializations s) given region) (rw e at n), e)

@@ -9,6 +9,7 @@ ghost use Rattle.sheet.specs.Head.{initializationRows, limits, headOf, startFau
 ghost use Rattle.rules.specs.Relocations.{regionCount};
 ghost use Rattle.relocations.specs.Query.{queryRefusal};
 ghost use Rattle.answers.specs.Relocations.{sheetInitializations, foundOf, relocationsRefusal, relocationsOf, wordsAfter, checkRefusal, baseCheckOf, containsOf};
+use answers::Answered;
 use answers::Checked;
 use answers::Relocations;
 use igvm_defs::Fault;
@@ -204,29 +205,29 @@ fn check_refusal(s: &[u8], given: u32, region: u64) -> Refusal
     igvm_defs::refuse(!(region < q.count as u64), 36, 0, Fault::NONE).in_row(0)
 }
 
-// Whether region `region` of the mask may be moved to the base.
-pub fn relocation_base_valid(s: &[u8], given: u32, region: u64, base: u64) -> Checked
+// Whether region `region` of the mask may be moved to the base, or why not.
+pub fn relocation_base_valid(s: &[u8], given: u32, region: u64, base: u64) -> Answered
     ensures { λ r. ⌜ r ≡ baseCheckOf limits (now (s .entry)) given region base ⌝ }
 {
     let refusal = check_refusal(s, given, region);
     if refusal.is_refusal() {
-        return Checked {
-            refusal,
-            holds: false,
-        };
+        return Answered { refusal, answer: 0 };
     }
     let r = regions::region_at(s, SheetHead::new(s), given, region);
+    if !r.found {
+        return Answered { refusal, answer: 0 };
+    }
     let q = r.region;
-    let valid = addresses::base_valid(
+    let check = addresses::base_check(
         q.relocation_alignment,
         q.size,
         q.minimum_relocation_gpa,
         q.maximum_relocation_gpa,
         base,
     );
-    Checked {
+    Answered {
         refusal,
-        holds: r.found & valid,
+        answer: check.number(),
     }
 }
 

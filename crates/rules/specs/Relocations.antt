@@ -5,7 +5,7 @@ use lib.Dec.{eqb}
 use Rattle.rows.specs.Rows.{Rows, countOf, nth}
 use Rattle.initialization_header.specs.{declared.IgvmInitializationHeader.IgvmInitializationHeader, Fields.{initializationFields, kindNumber}}
 use Rattle.masks.specs.Masks.{matches}
-use Rattle.addresses.specs.Addresses.{contains, baseValid}
+use Rattle.addresses.specs.{Addresses.{contains, baseValid}, BaseChecks.baseCheck, declared.BaseCheck.BaseCheck}
 use Rattle.rules.specs.{declared.IgvmRelocatableRegion.IgvmRelocatableRegion, declared.PageTableRegion.PageTableRegion, Options.then}
 
 -- the relocatable region of a header, where it is of kind 18
@@ -64,3 +64,8 @@ regionContains r gpa = contains (r .«base_gpa») (r .size) gpa
 abbrev pub relocationBaseValid : IgvmRelocatableRegion → ℕ → Bool
 relocationBaseValid r base =
     baseValid (r .«relocation_alignment») (r .size) (r .«minimum_relocation_gpa») (r .«maximum_relocation_gpa») base
+
+-- what is said of moving the region to the base
+abbrev pub relocationBaseCheck : IgvmRelocatableRegion → ℕ → BaseCheck
+relocationBaseCheck r base =
+    baseCheck (r .«relocation_alignment») (r .size) (r .«minimum_relocation_gpa») (r .«maximum_relocation_gpa») base

@@ -1,23 +1,25 @@
-use Rattle.rows.proofs.Kit.{ℕ, _≡_, sym, ap, _∙_, Bool, cond, arith, now, needs}
-use Rattle.rules.specs.Relocations.{relocationBaseValid}
-use Rattle.answers.specs.Region.{regionCheckOf}
+use Rattle.rows.proofs.Kit.{_≡_, ap, _∙_, arith, now, needs}
+use Rattle.addresses.specs.BaseChecks.{checkNumber}
+use Rattle.answers.specs.Relocations.{baseNumber}
 use Rattle.region_check.proofs.{RegionLaws.{said, no-region, a-region}, base_valid.Statement.statement}
 use Rattle.region_check.proofs.base_valid.Tie as tie
 
--- the test on the region that the words say
-told : (c : tie.After-base-valid) → let a = c .before .before .before .before .before .before .before .args in
-    c .base-valid .result ≡ relocationBaseValid (said (now (a .b))) (a .base)
+returns : tie.Need-returns
+returns c = rw (no-region (now (c .before .before .args .b)) (c .if1 .taken))
+
+-- the check of the region that the words say
+told : (c : tie.After-base-check) → let a = c .before .before .before .before .before .before .before .args in
+    checkNumber (c .base-check .result) ≡ baseNumber (a .base) (said (now (a .b)))
 told c =
     rw (← c .before .before .before .before .u64-at .ensures, ← c .before .before .before .u64-at2 .ensures, ← c .before .before .u64-at3 .ensures, ← c .before .u64-at4 .ensures)
-    (c .base-valid .ensures)
+    (ap checkNumber (c .base-check .ensures))
 
-answers : (c : tie.After-base-valid) (t : Bool) → c .base-valid .result ≡ t → let a = c .before .before .before .before .before .before .before .args in
-    cond t 1 0 ≡ regionCheckOf (λ r. relocationBaseValid r (a .base)) (now (a .b))
-answers c t e =
-    let a = c .before .before .before .before .before .before .before .args in
-    ap (λ (x : Bool). cond x 1 0) (sym e ∙ told c) ∙ sym (a-region _ (now (a .b)) (omega arith))
+returns-2 : tie.Need-returns-2
+returns-2 c =
+    let a = c .before .before .before .before .before .before .before .before .args in
+    rw (a-region (now (a .b)) (omega arith)) (c .number .ensures ∙ told (c .before))
 
 pub base-valid-spec : {M : Type 1} → statement M
 base-valid-spec =
-    tie.close (tie.spec (λ c. sym (no-region _ (now (c .before .before .args .b)) (c .if1 .taken))) (λ c κs. search needs) (λ c κs. search needs)
-    (λ c κs. search needs) (λ c κs. search needs) (λ c κs. search needs) (λ c. answers (c .before) _ (c .if2 .taken)) (λ c. answers (c .before) _ (c .if2 .left)))
+    tie.close (tie.spec returns (λ c κs. search needs) (λ c κs. search needs)
+    (λ c κs. search needs) (λ c κs. search needs) (λ c κs. search needs) (λ c κs. search needs) returns-2)

@@ -1,9 +1,8 @@
-use Rattle.rows.proofs.Kit.{_≡_, sym, _∙_, false, now, needs}
+use Rattle.rows.proofs.Kit.{_≡_, sym, _∙_, true, false, not-true, not-false, now, needs}
 use Rattle.igvm_defs.specs.Refusals.{isRefusal}
 use Rattle.sheet.{specs.Head.limits, proofs.Readable.readable-bounds, specs.Read.Readable}
-use Rattle.rules.{specs.declared.IgvmRelocatableRegion.IgvmRelocatableRegion, specs.Relocations.relocationBaseValid}
-use Rattle.answers.specs.Relocations.{checkRefusal}
-use Rattle.relocations.proofs.{CallLaws.{check-readable, check-refused, check-holds}, relocation_base_valid.Statement.statement}
+use Rattle.answers.specs.Relocations.{checkRefusal, baseNumber}
+use Rattle.relocations.proofs.{CallLaws.{check-readable, answer-refused, answer-none, answer-given}, relocation_base_valid.Statement.statement}
 use Rattle.relocations.proofs.relocation_base_valid.Tie as tie
 
 -- nothing is refused
@@ -17,16 +16,24 @@ returns : tie.Need-returns
 returns c =
     let e = c .before .before .check-refusal .ensures in
     let a = c .before .before .before .before .args in
-    rw e (check-refused limits (now (a .s)) (a .given) _ (a .region) (rw e at (sym (c .before .is-refusal .ensures) ∙ c .if1 .taken)))
+    rw e (answer-refused limits (now (a .s)) (a .given) _ (a .region) (rw e at (sym (c .before .is-refusal .ensures) ∙ c .if1 .taken)))
 
 returns-2 : tie.Need-returns-2
 returns-2 c =
-    let d = c .before .before .before .before .before in
+    let d = c .before .before .before .before in
     let a = d .before .before .before .before .args in
-    rw (c .before .base-valid .ensures, d .before .before .check-refusal .ensures)
-    (check-holds limits (now (a .s)) (a .given) (λ (r : IgvmRelocatableRegion). relocationBaseValid r (a .base)) (a .region) _ (not-refused d) (c .before .before .before .region-at .ensures))
+    rw (d .before .before .check-refusal .ensures)
+    (answer-none limits (now (a .s)) (a .given) (baseNumber (a .base)) (a .region) _ (not-refused d) (c .before .before .region-at .ensures) (not-true _ (c .if2 .taken)))
+
+returns-3 : tie.Need-returns-3
+returns-3 c =
+    let e = c .before .before .before in
+    let d = e .before .before .before .before in
+    let a = d .before .before .before .before .args in
+    rw (c .number .ensures, c .before .base-check .ensures, d .before .before .check-refusal .ensures)
+    (answer-given limits (now (a .s)) (a .given) (baseNumber (a .base)) (a .region) _ (not-refused d) (e .before .before .region-at .ensures) (not-false _ (e .if2 .left)))
 
 pub relocation-base-valid-spec : {M : Type 1} → statement M
 relocation-base-valid-spec =
     tie.close (tie.spec (λ c κs. search needs) (λ c κs. search needs) returns (λ c κs. readable-bounds _ (passed c) .head)
-    (λ c κs. (passed (c .before), c .new .ensures)) (λ c κs. search needs) returns-2)
+    (λ c κs. (passed (c .before), c .new .ensures)) returns-2 (λ c κs. search needs) (λ c κs. search needs) returns-3)
