@@ -1,5 +1,5 @@
 /* A host that reads a sheet from standard input, asks for the verdict, and for a mask (the argument, in hexadecimal digits; 1 without it) its regions,
- * whether each may stay where it is, and its page-table region. One call for each answer. Status 0: accepted; 1: refused; 2: no input. */
+ * whether each may stay where it is, or why not, and its page-table region. One call for each answer. Status 0: accepted; 1: refused; 2: no input. */
 #include <inttypes.h>
 #include <stdio.h>
 #include <stdlib.h>
@@ -28,11 +28,22 @@ static int refused(void) {
     return 1;
 }
 
+/* A base check's answer. It is no yes because it is not 0. */
+static const char *stays(uint64_t check) {
+    switch (check) {
+        case IGVM_BASE_VALID: return "yes";
+        case IGVM_BASE_UNALIGNED: return "no (unaligned)";
+        case IGVM_BASE_BELOW_MINIMUM: return "no (below the minimum)";
+        case IGVM_BASE_ABOVE_MAXIMUM: return "no (above the maximum)";
+        default: return "no"; /* none of this header's version */
+    }
+}
+
 static void print_region(uint64_t k) {
     const uint8_t *region = words + IGVM_REGION_BYTES * k;
     uint64_t base = word(region, 0);
-    printf("region %" PRIu64 ": base 0x%" PRIx64 " size 0x%" PRIx64 ", may stay: %" PRIu64 ", holds its base: %" PRIu64 "\n", k, base, word(region, 1),
-           igvm_region_base_valid(region, IGVM_REGION_BYTES, base), igvm_region_contains(region, IGVM_REGION_BYTES, base));
+    printf("region %" PRIu64 ": base 0x%" PRIx64 " size 0x%" PRIx64 ", may stay: %s, holds its base: %" PRIu64 "\n", k, base, word(region, 1),
+           stays(igvm_region_base_valid(region, IGVM_REGION_BYTES, base)), igvm_region_contains(region, IGVM_REGION_BYTES, base));
 }
 
 static int answer(size_t n, uint32_t mask) {

@@ -24,7 +24,7 @@ extern "C" {
 #endif
 
 /* The library's version; docs/CHANGELOG.md of the repository says what changed. */
-enum { IGVM_VERSION_MAJOR = 0, IGVM_VERSION_MINOR = 3, IGVM_VERSION_PATCH = 1 };
+enum { IGVM_VERSION_MAJOR = 0, IGVM_VERSION_MINOR = 4, IGVM_VERSION_PATCH = 0 };
 
 /* Limits: a sheet with more rows in a list, or with more bytes, is refused by IGVM_ERROR_LIMIT_EXCEEDED.
  *
@@ -105,8 +105,16 @@ enum {
 uint64_t igvm_relocations(const uint8_t *sheet, size_t sheet_len, uint32_t mask, uint8_t *words, size_t words_len, uint32_t which);
 uint64_t igvm_relocations_numbers(const uint8_t *sheet, size_t sheet_len, uint32_t mask, uint8_t *words, size_t words_len, uint8_t *numbers, size_t numbers_len);
 
-/* Whether the mask's region of this number, from 0, may be moved to the base. 3 valid (1 or 0). */
-enum { IGVM_VALID = 3, IGVM_CHECK_NUMBERS = 4 };
+/* Whether the mask's region of this number, from 0, may be moved to the base, or why not. Number 3 is the first of these that applies, in this order:
+ *
+ *   1 IGVM_BASE_VALID          none of the three below: the region may be moved there
+ *   2 IGVM_BASE_UNALIGNED      the base is no multiple of the region's alignment (of alignment 0 only 0 is one)
+ *   3 IGVM_BASE_BELOW_MINIMUM  the base is below the region's minimum
+ *   4 IGVM_BASE_ABOVE_MAXIMUM  base + size is above the region's maximum. The sum is exact: one that reaches 2^64 is above every maximum
+ *
+ * A number other than 0 is no yes: compare it with IGVM_BASE_VALID. 0 stands in a refusal alone. Before 0.4.0 number 3 was 1 for valid, else 0. */
+enum { IGVM_BASE_CHECK = 3, IGVM_CHECK_NUMBERS = 4 };
+enum { IGVM_BASE_VALID = 1, IGVM_BASE_UNALIGNED = 2, IGVM_BASE_BELOW_MINIMUM = 3, IGVM_BASE_ABOVE_MAXIMUM = 4 };
 uint64_t igvm_relocation_base_valid(const uint8_t *sheet, size_t sheet_len, uint32_t mask, uint64_t region, uint64_t base, uint32_t which);
 uint64_t igvm_relocation_base_valid_numbers(const uint8_t *sheet, size_t sheet_len, uint32_t mask, uint64_t region, uint64_t base, uint8_t *numbers, size_t numbers_len);
 
@@ -115,8 +123,10 @@ enum { IGVM_CONTAINED = 3 };
 uint64_t igvm_contains(const uint8_t *sheet, size_t sheet_len, uint32_t mask, uint64_t region, uint64_t gpa, uint32_t which);
 uint64_t igvm_contains_numbers(const uint8_t *sheet, size_t sheet_len, uint32_t mask, uint64_t region, uint64_t gpa, uint8_t *numbers, size_t numbers_len);
 
-/* The same two on a region's IGVM_REGION_BYTES, as igvm_relocations put them, without the sheet: 1 or 0. They answer as the calls on the sheet do; of other bytes
- * they say what those eight words give. In fewer bytes there is no region: 0. */
+/* The same two on a region's IGVM_REGION_BYTES, as igvm_relocations put them, without the sheet: each returns number 3. They answer as the calls on the sheet do; of
+ * other bytes they say what those eight words give. In fewer bytes there is no region: 0.
+ *
+ * Of a base that is 1 to 4: again a number other than 0 is no yes, and is to be compared with IGVM_BASE_VALID (before 0.4.0: 1 or 0). Of an address it is 1 or 0. */
 uint64_t igvm_region_base_valid(const uint8_t *region, size_t region_len, uint64_t base);
 uint64_t igvm_region_contains(const uint8_t *region, size_t region_len, uint64_t gpa);
 

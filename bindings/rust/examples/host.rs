@@ -1,7 +1,7 @@
 //! A host that reads a sheet from standard input, asks for the verdict, and for a mask (the argument, in hexadecimal digits; 1 without it) its regions, whether
-//! each may stay where it is, and its page-table region. It writes what examples/host.c of the repository does, and a refusal's reason to standard error.
+//! each may stay where it is, or why not, and its page-table region. It writes what examples/host.c of the repository does, and a refusal's reason to standard error.
 
-use sapyullu::{relocations, verdict, Refusal};
+use sapyullu::{relocations, verdict, BaseCheck, Refusal};
 use std::io::Read;
 use std::process::ExitCode;
 
@@ -13,7 +13,11 @@ fn answer(sheet: &[u8], mask: u32) -> Result<(), Refusal> {
     let found = relocations(sheet, mask)?;
     for (number, region) in found.regions.iter().enumerate() {
         let (base, size) = (region.base_gpa, region.size);
-        let (stays, holds) = (u8::from(region.relocation_base_valid(base)), u8::from(region.contains(base)));
+        let stays = match region.relocation_base_valid(base) {
+            BaseCheck::Valid => "yes".to_string(),
+            reason => format!("no ({reason})"),
+        };
+        let holds = u8::from(region.contains(base));
         println!("region {number}: base {base:#x} size {size:#x}, may stay: {stays}, holds its base: {holds}");
     }
     if let Some(table) = found.page_table {

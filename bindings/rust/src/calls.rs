@@ -1,7 +1,7 @@
 //! The calls of the library, as safe functions. Each makes one call, which puts all numbers of the answer into bytes that are lent to it.
 
 use crate::headers::region_flags;
-use crate::{Refusal, Vtl};
+use crate::{BaseCheck, Refusal, Vtl};
 
 /// `libigvm.a`, as include/igvm.h declares it: any bytes, any numbers.
 mod linked {
@@ -117,7 +117,8 @@ pub fn verdict(sheet: &[u8]) -> Result<Counts, Refusal> {
     Ok(Counts { platform_headers, initialization_headers, directive_headers })
 }
 
-/// A relocatable region. It has the fields and the methods of crate igvm's, and can be made from one field by field.
+/// A relocatable region. It has the fields and the methods of crate igvm's, and can be made from one field by field. One method says more than there:
+/// [`relocation_base_valid`](Self::relocation_base_valid) gives a [`BaseCheck`], which says why a base is turned down, and crate igvm's gives a bool.
 #[derive(Debug, Clone, PartialEq, Eq)]
 pub struct IgvmRelocatableRegion {
     /// Where the region lies.
@@ -193,15 +194,21 @@ impl IgvmRelocatableRegion {
         unsafe { linked::igvm_region_contains(region.as_ptr(), region.len(), gpa) == 1 }
     }
 
-    /// Whether the region may be moved to the base: it is a multiple of the alignment, not below the minimum, and base + size is not above the maximum. The
-    /// sum is exact: it does not overflow.
+    /// Whether the region may be moved to the base, or else the first that applies of: it is no multiple of the alignment, it is below the minimum, base + size
+    /// is above the maximum. The sum is exact: it does not overflow.
+    ///
+    /// Crate igvm's method of this name gives a bool: [`BaseCheck::is_valid`] is that bool, where the sum does not overflow there.
     ///
     /// This asks the library, and needs no sheet. [`relocation_base_valid`] of the region's sheet, mask and number says the same. No region of an accepted
     /// image has alignment 0; of one that has, 0 alone can be valid.
-    pub fn relocation_base_valid(&self, relocation_base: u64) -> bool {
+    ///
+    /// # Panics
+    ///
+    /// The library linked is not the one of this crate's version.
+    pub fn relocation_base_valid(&self, relocation_base: u64) -> BaseCheck {
         let region = self.to_words();
         // SAFETY: the pointer and the length are those of a slice, which is only read.
-        unsafe { linked::igvm_region_base_valid(region.as_ptr(), region.len(), relocation_base) == 1 }
+        base_check(unsafe { linked::igvm_region_base_valid(region.as_ptr(), region.len(), relocation_base) })
     }
 }
 
@@ -245,6 +252,11 @@ pub struct Filled {
 /// What a library that keeps to include/igvm.h can't answer. A panic stands in for a number that would be cut.
 const BROKEN: &str = "libigvm.a breaks the promises of include/igvm.h";
 
+/// The answer of this number, which is that of a region. A library before 0.4.0 gives 0 where a base is not valid.
+fn base_check(number: u64) -> BaseCheck {
+    BaseCheck::from_number(number).expect(BROKEN)
+}
+
 /// The regions of a mask and its page-table region: those whose headers' masks hold every bit of it. Stands for `IgvmFile::relocations`.
 ///
 /// # Errors
@@ -285,7 +297,8 @@ pub fn relocations_into(sheet: &[u8], mask: u32, words: &mut [u8]) -> Result<Fil
     Ok(Filled { count: usize::try_from(count).expect(BROKEN), page_table })
 }
 
-/// Whether the mask's region of this number, from 0 in the order of [`Relocations::regions`], may be moved to the base.
+/// Whether the mask's region of this number, from 0 in the order of [`Relocations::regions`], may be moved to the base, or why not: the first answer of
+/// [`BaseCheck`] that applies. A base that is turned down is an answer, not a refusal.
 ///
 /// The sheet is judged anew by each such call. [`IgvmRelocatableRegion::relocation_base_valid`] says the same of a region that [`relocations`] gave.
 ///
@@ -293,9 +306,13 @@ pub fn relocations_into(sheet: &[u8], mask: u32, words: &mut [u8]) -> Result<Fil
 ///
 /// The sheet is refused, the mask is 0 ([`QueryMaskZero`](crate::Error::QueryMaskZero)), or it has no region of this number
 /// ([`NoSuchRegion`](crate::Error::NoSuchRegion)).
-pub fn relocation_base_valid(sheet: &[u8], mask: u32, region: u64, base: u64) -> Result<bool, Refusal> {
-    let [.., valid] = accepted(sheet, relocation_base_valid_numbers(sheet, mask, region, base))?;
-    Ok(valid == 1)
+///
+/// # Panics
+///
+/// The library linked is not the one of this crate's version.
+pub fn relocation_base_valid(sheet: &[u8], mask: u32, region: u64, base: u64) -> Result<BaseCheck, Refusal> {
+    let [.., number] = accepted(sheet, relocation_base_valid_numbers(sheet, mask, region, base))?;
+    Ok(base_check(number))
 }
 
 /// Whether the gpa lies in the mask's region of this number.
@@ -365,8 +382,9 @@ mod tests {
                 for at in [0, 0xF_F000, 0x10_0000, 0x10_1FFF, 0x10_2000, 0x1F_E000, 0x1F_F000, u64::MAX] {
                     let (start, length) = (sheet.as_ptr(), sheet.len());
                     // SAFETY: the pointer and the length are those of a slice, which is only read.
-                    let valid = one_by_one(|which| unsafe { linked::igvm_relocation_base_valid(start, length, mask, region, at, which) });
-                    assert_eq!(relocation_base_valid_numbers(&sheet, mask, region, at), valid);
+                    let check = one_by_one(|which| unsafe { linked::igvm_relocation_base_valid(start, length, mask, region, at, which) });
+                    assert_eq!(relocation_base_valid_numbers(&sheet, mask, region, at), check);
+                    assert_eq!(check[0] != 0, check[3] == 0, "0 is no answer, and stands in a refusal");
                     // SAFETY: the pointer and the length are those of a slice, which is only read.
                     let contained = one_by_one(|which| unsafe { linked::igvm_contains(start, length, mask, region, at, which) });
                     assert_eq!(contains_numbers(&sheet, mask, region, at), contained);
@@ -395,5 +413,17 @@ mod tests {
             unsafe { linked::igvm_region_contains(region.as_ptr(), region.len(), 0) }
         };
         assert_eq!([0, 63, 64, 65].map(contains), [0, 0, 1, 1]);
+        let base_valid = |length: usize| {
+            let region = &bytes[..length];
+            // SAFETY: the pointer and the length are those of a slice, which is only read.
+            unsafe { linked::igvm_region_base_valid(region.as_ptr(), region.len(), 0) }
+        };
+        assert_eq!([0, 63, 64, 65].map(base_valid), [0, 0, 4, 4]);
+    }
+
+    #[test]
+    #[should_panic = "libigvm.a breaks the promises of include/igvm.h"]
+    fn the_0_of_a_library_before_0_4_0_is_no_answer() {
+        let _ = base_check(0);
     }
 }

@@ -1,8 +1,8 @@
 //! Admission of IGVM images for a host: `libigvm.a`, whose answers are proved, behind safe functions.
 //!
 //! A [`Sheet`] holds the values of an image's headers, and [`Sheet::bytes`] writes them as the library reads them. [`verdict`] says whether the image is
-//! accepted, and [`relocations`] which regions of a mask may be relocated; the methods of a region say where to. Each takes any bytes, makes one call of
-//! the library, and answers or gives one [`Refusal`], with its row, its list and index there, its reason and its cure.
+//! accepted, and [`relocations`] which regions of a mask may be relocated; the methods of a region say where to, and by a [`BaseCheck`] why not. Each takes
+//! any bytes, makes one call of the library, and answers or gives one [`Refusal`], with its row, its list and index there, its reason and its cure.
 //!
 //! ```
 //! use sapyullu::*;
@@ -41,12 +41,14 @@
 
 #[cfg(feature = "igvm")]
 mod adapter;
+mod base_check;
 mod calls;
 mod headers;
 mod place;
 mod refusal;
 mod sheet;
 
+pub use base_check::BaseCheck;
 pub use calls::{contains, relocation_base_valid, relocations, relocations_into, verdict};
 pub use calls::{Counts, Filled, IgvmRelocatableRegion, PageTableRegion, Relocations, REGION_BYTES};
 pub use headers::{Arch, IgvmDirectiveHeader, IgvmInitializationHeader, IgvmPlatformHeader, IgvmRevision, Vtl};

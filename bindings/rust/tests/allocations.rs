@@ -36,8 +36,8 @@ fn a_list_of_regions_is_one_allocation_and_other_answers_are_none() {
     assert_eq!((found.regions.len(), made.len()), (64, 1));
     let region = &found.regions[0];
     let (answers, made) = counted(|| {
-        let checks = relocation_base_valid(&sheet, 1, 0, 0).unwrap() && contains(&sheet, 1, 0, 0).unwrap();
-        checks && verdict(&sheet).is_ok() && verdict(&[]).is_err() && region.contains(0) && region.relocation_base_valid(0)
+        let checks = relocation_base_valid(&sheet, 1, 0, 0).unwrap().is_valid() && contains(&sheet, 1, 0, 0).unwrap();
+        checks && verdict(&sheet).is_ok() && verdict(&[]).is_err() && region.contains(0) && region.relocation_base_valid(0).is_valid()
     });
     assert!(answers);
     assert_eq!(made, []);

@@ -3,7 +3,9 @@
 mod common;
 
 use common::{image_b, image_with, region};
+use sapyullu::BaseCheck::{AboveMaximum, BelowMinimum, Unaligned, Valid};
 use sapyullu::*;
+use std::collections::HashMap;
 
 /// A region with a number of its own in every field.
 fn distinct() -> IgvmInitializationHeader {
@@ -127,17 +129,17 @@ fn words_that_are_no_region() {
 #[test]
 fn a_base_is_valid_from_the_minimum_up_to_the_maximum() {
     let sheet = several();
-    let valid = |base| relocation_base_valid(&sheet, 1, 0, base).unwrap();
-    assert!(valid(0x4000), "at the minimum");
-    assert!(!valid(0), "below the minimum, on the alignment");
-    assert!(!valid(0x4001) && !valid(0x5000), "off the alignment");
-    assert!(valid(0x7F_4000), "the last that ends at most at the maximum");
-    assert!(!valid(0x7F_8000), "ends above the maximum");
-    assert!(!valid(u64::MAX) && !valid(0xFFFF_FFFF_FFFF_C000), "the sum passes 2^64");
+    let check = |base| relocation_base_valid(&sheet, 1, 0, base).unwrap();
+    assert_eq!(check(0x4000), Valid, "at the minimum");
+    assert_eq!(check(0), BelowMinimum, "on the alignment");
+    assert_eq!([0x4001, 0x5000, u64::MAX].map(check), [Unaligned; 3]);
+    assert_eq!(check(0x7F_4000), Valid, "the last that ends at most at the maximum");
+    assert_eq!(check(0x7F_8000), AboveMaximum);
+    assert_eq!(check(0xFFFF_FFFF_FFFF_C000), AboveMaximum, "the sum passes 2^64");
     let b = image_b().bytes().unwrap();
-    let valid = |base| relocation_base_valid(&b, 1, 0, base).unwrap();
-    assert!(valid(0x1F_E000), "ends at the maximum");
-    assert!(!valid(0x1F_F000));
+    let check = |base| relocation_base_valid(&b, 1, 0, base).unwrap();
+    assert_eq!(check(0x1F_E000), Valid, "ends at the maximum");
+    assert_eq!(check(0x1F_F000), AboveMaximum);
 }
 
 #[test]
@@ -204,41 +206,46 @@ fn a_regions_sums_are_exact() {
     let region = loose(0xFFFF_FFFF_FFFF_F000, 0x2000, 0x1000, 0, u64::MAX);
     assert!(region.contains(u64::MAX) && !region.contains(0xFFFF_FFFF_FFFF_EFFF));
     assert!(!region.contains(0) && !region.contains(0xFFF), "the end is not cut to 64 bits");
-    assert!(!region.relocation_base_valid(0xFFFF_FFFF_FFFF_F000) && !region.relocation_base_valid(0xFFFF_FFFF_FFFF_E000));
-    assert!(region.relocation_base_valid(0xFFFF_FFFF_FFFF_D000), "the end is 2^64 - 0x1000");
-    let unaligned = loose(0, 0, 0, 0, u64::MAX);
-    assert!(unaligned.relocation_base_valid(0) && !unaligned.relocation_base_valid(0x1000), "alignment 0 does not panic");
+    let ends = [0xFFFF_FFFF_FFFF_D000, 0xFFFF_FFFF_FFFF_E000, 0xFFFF_FFFF_FFFF_F000].map(|base| region.relocation_base_valid(base));
+    assert_eq!(ends, [Valid, AboveMaximum, AboveMaximum], "2^64 - 0x1000, 2^64, 2^64 + 0x1000");
 }
 
 #[test]
 fn a_base_is_a_multiple_of_any_alignment() {
-    let valid = |alignment, base| loose(0, 0, alignment, 0, u64::MAX).relocation_base_valid(base);
+    let check = |alignment, base| loose(0, 0, alignment, 0, u64::MAX).relocation_base_valid(base);
     for place in 0..64 {
         let power = 1 << place;
-        assert!(valid(power, 0) && valid(power, power) && valid(power, 0u64.wrapping_sub(power)), "2^{place}");
-        assert!((0..place).all(|bit| !valid(power, power | 1 << bit)), "2^{place}, with a lower bit");
+        assert_eq!([0, power, 0u64.wrapping_sub(power)].map(|base| check(power, base)), [Valid; 3], "2^{place}");
+        assert!((0..place).all(|bit| check(power, power | 1 << bit) == Unaligned), "2^{place}, with a lower bit");
     }
     for alignment in [0x3000, 0x5000, 0xFFF, (1 << 63) - 1, (1 << 63) + 0x1000] {
-        assert!(valid(alignment, alignment), "{alignment:#x} has a bit of the number below it");
-        assert!(!valid(alignment, 0u64.wrapping_sub(alignment)), "2^64 - {alignment:#x} has none, and is no multiple");
+        assert_eq!(check(alignment, alignment), Valid, "{alignment:#x} has a bit of the number below it");
+        assert_eq!(check(alignment, 0u64.wrapping_sub(alignment)), Unaligned, "2^64 - {alignment:#x} has none, and is no multiple");
     }
 }
 
 #[test]
 fn a_regions_methods_are_the_sums_in_128_bits() {
     let mut state = 1;
-    let (mut valid, mut contained) = (0, 0);
+    let (mut answers, mut contained) = (HashMap::from([Valid, Unaligned, BelowMinimum, AboveMaximum].map(|check| (check, 0))), 0);
     for _ in 0..100_000 {
         let [base, size, alignment, minimum, maximum, at] = [(); 6].map(|()| random_gpa(&mut state));
-        let region = loose(base, size, alignment.max(1), minimum, maximum);
+        let region = loose(base, size, alignment, minimum, maximum);
         let [size, maximum] = [size, maximum].map(u128::from);
-        let expected = at % alignment.max(1) == 0 && minimum <= at && u128::from(at) + size <= maximum;
+        let expected = match () {
+            // of alignment 0 only 0 is a multiple
+            () if at.checked_rem(alignment).unwrap_or(at) != 0 => Unaligned,
+            () if at < minimum => BelowMinimum,
+            () if u128::from(at) + size > maximum => AboveMaximum,
+            () => Valid,
+        };
         assert_eq!(region.relocation_base_valid(at), expected, "{region:x?} {at:#x}");
         let inside = base <= at && u128::from(at) < u128::from(base) + size;
         assert_eq!(region.contains(at), inside, "{region:x?} {at:#x}");
-        (valid, contained) = (valid + u32::from(expected), contained + u32::from(inside));
+        *answers.get_mut(&expected).unwrap() += 1;
+        contained += u32::from(inside);
     }
-    assert!(valid > 1000 && valid < 99_000 && contained > 1000 && contained < 99_000, "{valid} {contained}");
+    assert!(answers.values().all(|&times| times > 1000) && contained > 1000 && contained < 99_000, "{answers:?} {contained}");
 }
 
 /// A small number, one near 2^64, or a power of two.

@@ -65,7 +65,7 @@ fn a_firmware_of_6000_pages_is_accepted() {
     assert!(sheet.len() > FORMER_LIMIT);
     assert_eq!(line(&sheet), "accepted 1 1 6001");
     assert_eq!(relocations(&sheet, 1), relocations(&image_b().bytes().unwrap(), 1));
-    assert_eq!(relocation_base_valid(&sheet, 1, 0, 0x1F_E000), Ok(true));
+    assert_eq!(relocation_base_valid(&sheet, 1, 0, 0x1F_E000), Ok(BaseCheck::Valid));
     assert_eq!(contains(&sheet, 1, 0, 0x10_2000), Ok(false));
     directives[5999] = page(1, &data);
     let refusal = verdict(&with_directives(&directives)).unwrap_err();

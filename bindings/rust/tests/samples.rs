@@ -26,7 +26,7 @@ impl Sample {
         fs::read(Path::new(FOLDER).join(&self.file)).unwrap()
     }
 
-    /// The call's answer: a line of an accepted verdict, nothing for other calls that are answered, or the refusal.
+    /// The call's answer: a line of an accepted verdict, for other calls that are answered a line with a base check's number, or the refusal.
     fn made(&self) -> Result<String, Refusal> {
         let sheet = self.sheet();
         let words: Vec<&str> = self.call.split(' ').collect();
@@ -35,10 +35,11 @@ impl Sample {
             ["verdict"] => verdict(&sheet).map(|counts| counts.line()),
             ["relocations", "mask", mask, "lent", lent] => {
                 let mut lent = vec![0; number(lent) as usize];
-                relocations_into(&sheet, number(mask) as u32, &mut lent).map(|_| String::new())
+                relocations_into(&sheet, number(mask) as u32, &mut lent).map(|_| "answered".to_string())
             }
             ["relocation_base_valid", "mask", mask, "region", region, "base", base] => {
-                relocation_base_valid(&sheet, number(mask) as u32, number(region), number(base)).map(|_| String::new())
+                let check = relocation_base_valid(&sheet, number(mask) as u32, number(region), number(base));
+                check.map(|check| format!("answered {}", check.number()))
             }
             _ => panic!("no such call: {}", self.call),
         }
