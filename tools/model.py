@@ -1,4 +1,5 @@
-"""The verdict of document 01 on a sheet, with the limits of request 1, and the refusals of its queries, written from the papers alone and as plainly as it goes.
+"""The verdict of document 01 on a sheet, with the limits of request 1, the refusals of its queries, and the base check of request 7, written from the papers alone and
+as plainly as it goes.
 
 It serves one purpose: `sheets.py --check` holds the lines that are written by hand beside the samples against it.
 Rows are numbered from 1 across the lists, as in the paper.
@@ -91,8 +92,8 @@ def platform_rows(arch, rows):
 
 
 def initialization_rows(arch, of_mask, rows):
-    """Refusals 16 to 29. Gives the regions and the page tables: mask, gpa, size, VP, VTL."""
-    regions, page_tables = [], []
+    """Refusals 16 to 29. Gives the regions and the page tables: mask, gpa, size, VP, VTL; and of each region where it may go: alignment, size, minimum, maximum."""
+    regions, page_tables, bounds = [], [], []
     for row, kind, body in rows:
         if kind == 17:
             cca_policy(arch, of_mask, row, body)
@@ -105,6 +106,7 @@ def initialization_rows(arch, of_mask, rows):
                 refuse(address % alignment != 0, 20, row, address)
             sound(row, mask, gpa, size, regions + page_tables)
             regions.append((mask, gpa, size, vp, vtl))
+            bounds.append((alignment, size, minimum, maximum))
         elif kind == 19:
             mask, gpa, size, used, vp, vtl = struct.unpack("<IQQQHB", body)
             refuse(gpa % PAGE != 0, 21, row, gpa)
@@ -114,7 +116,7 @@ def initialization_rows(arch, of_mask, rows):
             refuse(any(mask & earlier[0] for earlier in page_tables), 26, row)
             sound(row, mask, gpa, size, regions + page_tables)
             page_tables.append((mask, gpa, size, vp, vtl))
-    return regions, page_tables
+    return regions, page_tables, bounds
 
 
 def cca_policy(arch, of_mask, row, body):
@@ -172,14 +174,14 @@ def directive_rows(arch, page_tables, rows):
 
 
 def admitted(s):
-    """The three lists of an accepted sheet and the masks of its kind 18 regions; else Refused is raised."""
+    """The three lists of an accepted sheet and its kind 18 regions: each a mask and where it may go; else Refused is raised."""
     arch, lists = read(s)
     of_mask = platform_rows(arch, lists[0])
-    regions, page_tables = initialization_rows(arch, of_mask, lists[1])
+    regions, page_tables, bounds = initialization_rows(arch, of_mask, lists[1])
     contexts = directive_rows(arch, page_tables, lists[2])
     for mask, _, _, vp, vtl in regions + page_tables:
         refuse(vp != 0 or not any(mask & mask2 and vtl == vtl2 for mask2, vtl2 in contexts), 34)
-    return lists, [mask for mask, *_ in regions]
+    return lists, [(mask, where) for (mask, *_), where in zip(regions, bounds)]
 
 
 def verdict(s):
@@ -188,32 +190,51 @@ def verdict(s):
     return "accepted %d %d %d" % tuple(map(len, lists))
 
 
-def count(s, mask):
-    """35: how many regions match the query mask, those whose mask holds every bit of it."""
-    _, masks = admitted(s)
+def matching(s, mask):
+    """35: where the regions may go that match the query mask, those whose mask holds every bit of it."""
+    _, regions = admitted(s)
     refuse(mask == 0, 35)
-    return sum(mask2 & mask == mask for mask2 in masks)
+    return [where for mask2, where in regions if mask2 & mask == mask]
 
 
 def relocations(s, mask, lent):
     """37: eight words for each region, in the bytes lent."""
-    regions = count(s, mask)
-    refuse(lent // 8 < 8 * regions, 37)
+    regions = matching(s, mask)
+    refuse(lent // 8 < 8 * len(regions), 37)
     return "answered"
 
 
-def check(s, mask, region, **_):
-    """36: the base check and the address check of the region of this number."""
-    refuse(region >= count(s, mask), 36)
+def chosen(s, mask, region):
+    """36: where the region of this number may go."""
+    regions = matching(s, mask)
+    refuse(region >= len(regions), 36)
+    return regions[region]
+
+
+def contains(s, mask, region, **_):
+    chosen(s, mask, region)
     return "answered"
 
 
-CALLS = {"verdict": verdict, "relocations": relocations, "relocation_base_valid": check, "contains": check}
+def base_check(s, mask, region, base):
+    """1 valid, unless one of these applies, the first in this order: 2 unaligned, 3 below the minimum, 4 above the maximum."""
+    alignment, size, minimum, maximum = chosen(s, mask, region)
+    if base % alignment != 0:
+        return "answered 2"
+    if base < minimum:
+        return "answered 3"
+    if base + size > maximum:
+        return "answered 4"
+    return "answered 1"
+
+
+CALLS = {"verdict": verdict, "relocations": relocations, "relocation_base_valid": base_check, "contains": contains}
 
 
 def line(s, call="verdict"):
     """The line that `admit` writes of a sheet, where the call is the verdict; a sheet of more than 65,536 bytes is answered as by the call.
-    Another call has the names of its numbers, each before its number: `relocations mask 1 lent 64`. Where it is refused, the line says so likewise."""
+    Another call has the names of its numbers, each before its number: `relocations mask 1 lent 64`. Where it is refused, the line says so likewise; of a base
+    that is checked, it says which of the four answers is given."""
     name, *words = call.split()
     try:
         return CALLS[name](s, **dict(zip(words[::2], map(int, words[1::2]))))

@@ -12,7 +12,7 @@ The line beside a sample is written by hand from the paper. `--check` holds it a
     tools/sheets.py --list               each sample's name, line and description
     tools/sheets.py --write DIR NAME..   write these samples (no NAME: all of up to 65,536 bytes) into DIR, and print 'name: line' for each
     tools/sheets.py --gate               write args, data/ and stdout of the program crates/admit_sheets
-    tools/sheets.py --samples            write the folder samples: one sheet for each refusal and some accepted ones, with a README
+    tools/sheets.py --samples            write the folder samples: one sheet for each refusal, some accepted ones and some base checks, with a README
 """
 
 import sys
@@ -357,7 +357,9 @@ refused("20-3000-maximum", 2, 0x400000, "alignment 0x3000, maximum 0x400000, whi
 accepted("alignment-large", "1 1 1", "alignment 2^63, gpa 0", B.initializations(region(alignment=2**63, gpa=0, maximum=2**63)))
 refused("20-large", 2, 2**62, "alignment 2^63, gpa 2^62", B.initializations(region(alignment=2**63, gpa=2**62, maximum=2**63)))
 refused("20-large-maximum", 2, 2**62, "alignment 2^63, maximum 2^62", B.initializations(region(alignment=2**63, gpa=0, maximum=2**62)))
+accepted("one-base", "1 1 1", "minimum 0x100000, maximum 0x102000: one base alone is valid", B.initializations(region(minimum=0x100000, maximum=0x102000)))
 accepted("minimum-above", "1 1 1", "minimum above maximum", B.initializations(region(minimum=0x201000)))
+accepted("maximum-top", "1 1 1", "maximum 2^64 - 0x1000, the highest", B.initializations(region(maximum=TOP)))
 refused("20-before-27", 2, 0x100800, "gpa 0x100800, size 0", B.initializations(region(gpa=0x100800, size=0)))
 refused("20-before-28", 2, 2**64 - 0x800, "gpa 2^64 - 0x800", B.initializations(region(gpa=2**64 - 0x800)))
 refused("17-row-2", 2, 0, "size 0x2001 in row 2, zeroes and ones in row 3", B.initializations(region(size=0x2001), cca_policy(zeroes=1, ones=1)))
@@ -706,18 +708,29 @@ SHOWN = [
     Shown("36-region-1", "b", "region 1 where there is one region: numbers count from 0",
           "relocation_base_valid mask 1 region 1 base 1048576", "refused 36 row 0 detail 0"),
     Shown("37-seven-words", "b", "seven words lent, where a region takes eight", "relocations mask 1 lent 56", "refused 37 row 0 detail 0"),
+    Shown("base-1-valid", "one-base", "base 0x100000, the minimum, from where the region ends at its maximum, 0x102000",
+          "relocation_base_valid mask 1 region 0 base 1048576", "answered 1"),
+    Shown("base-2-unaligned", "one-base", "base 0xFF800, alignment 0x1000; the base is below the minimum, 0x100000, too",
+          "relocation_base_valid mask 1 region 0 base 1046528", "answered 2"),
+    Shown("base-3-below-minimum", "minimum-above", "base 0x200000, minimum 0x201000; the end is above the maximum, 0x200000, too",
+          "relocation_base_valid mask 1 region 0 base 2097152", "answered 3"),
+    Shown("base-4-above-maximum", "b", "base 0x1FF000: the region ends at 0x201000, a page above its maximum",
+          "relocation_base_valid mask 1 region 0 base 2093056", "answered 4"),
+    Shown("base-4-end-at-2-64", "maximum-top", "base 0xFFFFFFFFFFFFE000: base and size add up to 2^64, above every maximum",
+          "relocation_base_valid mask 1 region 0 base 18446744073709543424", "answered 4"),
 ]
 
 FOLDER = REPOSITORY / "samples"
 README = """# Sample sheets
 
-One sheet for each refusal and some that are accepted. `admit` answers the verdict:
+One sheet for each refusal, some that are accepted, and some for whose region a base is proposed. `admit` answers the verdict:
 
     rt check admit && target/bin/admit < samples/19-alignment-zero.sheet
 
 It takes up to 65,536 bytes and refuses by 3 what is longer: `accepted-largest-lists`, `accepted-6000-pages`, `accepted-8192-directives` and `03-8193-directives`, whose answers beside them are those of the library's
-call and of the examples in Rust and in C. The verdict accepts the last three; it is the call beside them that is refused (`lent` is in bytes). `docs/SHEET.md` says how a sheet is written, `docs/REFUSALS.md` what each
-refusal means and how to mend it. `tools/sheets.py --samples` writes this folder, and `tools/sheets.py --check` holds it to the samples and the lines of its list.
+call and of the examples in Rust and in C. The verdict accepts 35 to 37; it is the call beside them that is refused (`lent` is in bytes). It accepts the sheets `base-..` too. The call beside them checks a base, and
+`answered` stands in front of the number of its answer: 1 valid, 2 unaligned, 3 below the minimum, 4 above the maximum, the first that applies. `docs/SHEET.md` says how a sheet is written and when a base is valid,
+`docs/REFUSALS.md` what each refusal means and how to mend it. `tools/sheets.py --samples` writes this folder, and `tools/sheets.py --check` holds it to the samples and the lines of its list.
 
 | file | call | answer | what it shows |
 |---|---|---|---|

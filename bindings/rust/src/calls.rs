@@ -330,6 +330,7 @@ pub fn contains(sheet: &[u8], mask: u32, region: u64, gpa: u64) -> Result<bool, 
 #[cfg(test)]
 mod tests {
     use super::*;
+    use std::collections::BTreeSet;
     use std::fs;
 
     /// The sheets of the folder samples: accepted ones, and one for each refusal.
@@ -377,6 +378,7 @@ mod tests {
 
     #[test]
     fn a_checks_numbers_are_those_of_the_calls_by_which() {
+        let mut last_numbers = BTreeSet::new();
         for sheet in sheets() {
             for (mask, region) in [(0, 0), (1, 0), (1, 1), (2, 0), (3, 0), (1, u64::MAX)] {
                 for at in [0, 0xF_F000, 0x10_0000, 0x10_1FFF, 0x10_2000, 0x1F_E000, 0x1F_F000, u64::MAX] {
@@ -385,12 +387,14 @@ mod tests {
                     let check = one_by_one(|which| unsafe { linked::igvm_relocation_base_valid(start, length, mask, region, at, which) });
                     assert_eq!(relocation_base_valid_numbers(&sheet, mask, region, at), check);
                     assert_eq!(check[0] != 0, check[3] == 0, "0 is no answer, and stands in a refusal");
+                    last_numbers.insert(check[3]);
                     // SAFETY: the pointer and the length are those of a slice, which is only read.
                     let contained = one_by_one(|which| unsafe { linked::igvm_contains(start, length, mask, region, at, which) });
                     assert_eq!(contains_numbers(&sheet, mask, region, at), contained);
                 }
             }
         }
+        assert_eq!(last_numbers.into_iter().collect::<Vec<_>>(), [0, 1, 2, 3, 4]);
     }
 
     #[test]
