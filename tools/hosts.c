@@ -1,5 +1,5 @@
 /* Holds libigvm.a to what include/igvm.h says beside the proved contracts: calls and their siblings agree, on several threads at once, within IGVM_STACK_BYTES of
- * stack, and lent bytes that overlap the sheet get what others get. The arguments are files of sheets. It writes the stack that each call takes on four images made
+ * stack, a base check answers one of the four, and lent bytes that overlap the sheet get what others get. The arguments are files of sheets. It writes the stack that each call takes on four images made
  * here; the last line is `N sheets, S bytes of stack`, the most that any call took. */
 #define _GNU_SOURCE
 #include <pthread.h>
@@ -59,16 +59,20 @@ static void verdict(const char *file, const uint8_t *sheet, size_t n) {
     hold_numbers(file, numbers, IGVM_VERDICT_NUMBERS, igvm_verdict_numbers(sheet, n, numbers, sizeof numbers), each);
 }
 
-static void checks(const char *file, const uint8_t *sheet, size_t n, uint32_t mask, uint64_t region, const uint8_t *words, uint64_t at) {
+/* Both checks at this place, in a region that the mask has. Returns the base check's answer. */
+static uint64_t checks(const char *file, const uint8_t *sheet, size_t n, uint32_t mask, uint64_t region, const uint8_t *words, uint64_t at) {
     uint8_t numbers[8 * IGVM_CHECK_NUMBERS + 1];
     uint64_t each[IGVM_CHECK_NUMBERS];
     memset(numbers, PAINT, sizeof numbers);
     for (uint32_t k = 0; k < IGVM_CHECK_NUMBERS; k++) each[k] = igvm_relocation_base_valid(sheet, n, mask, region, at, k);
     hold_numbers(file, numbers, IGVM_CHECK_NUMBERS, igvm_relocation_base_valid_numbers(sheet, n, mask, region, at, numbers, sizeof numbers), each);
-    hold(igvm_region_base_valid(words, IGVM_REGION_BYTES, at) == each[IGVM_VALID], file, "the region's words say another base");
+    uint64_t base_check = each[IGVM_BASE_CHECK];
+    hold(each[IGVM_NUMBER] == IGVM_ACCEPTED && base_check >= IGVM_BASE_VALID && base_check <= IGVM_BASE_ABOVE_MAXIMUM, file, "a base check gives none of its answers");
+    hold(igvm_region_base_valid(words, IGVM_REGION_BYTES, at) == base_check, file, "the region's words say another base");
     for (uint32_t k = 0; k < IGVM_CHECK_NUMBERS; k++) each[k] = igvm_contains(sheet, n, mask, region, at, k);
     hold_numbers(file, numbers, IGVM_CHECK_NUMBERS, igvm_contains_numbers(sheet, n, mask, region, at, numbers, sizeof numbers), each);
     hold(igvm_region_contains(words, IGVM_REGION_BYTES, at) == each[IGVM_CONTAINED], file, "the region's words say another address");
+    return base_check;
 }
 
 static void relocations(const char *file, const uint8_t *sheet, size_t n, uint32_t mask, uint8_t *overlapping) {
@@ -86,7 +90,10 @@ static void relocations(const char *file, const uint8_t *sheet, size_t n, uint32
     for (uint64_t k = 0; k < each[IGVM_COUNT]; k++) {
         const uint8_t *region = words + IGVM_REGION_BYTES * k;
         uint64_t places[] = {0, word(region, 0), word(region, 0) + word(region, 1), word(region, 3), word(region, 4) - word(region, 1), UINT64_MAX};
-        for (size_t i = 0; i < sizeof places / sizeof *places; i++) checks(file, sheet, n, mask, k, region, places[i]);
+        uint64_t first = checks(file, sheet, n, mask, k, region, places[0]), differ = 0;
+        for (size_t i = 1; i < sizeof places / sizeof *places; i++) differ |= first ^ checks(file, sheet, n, mask, k, region, places[i]);
+        /* A region's own base is aligned, and UINT64_MAX is not. */
+        hold(differ != 0, file, "the base check gives one answer everywhere");
     }
 }
 
