@@ -82,7 +82,8 @@ fn edited(image: &Image, edit: &Edit) -> Vec<u8> {
     let mut image = image.clone();
     match *edit {
         Edit::NoLeftOver => image.left_over.clear(),
-        Edit::PlainHead => (image.revision, image.arch, image.page_size) = (1, 0, 0),
+        // Revision 0 stays: a step to 1 could be taken back, again and again.
+        Edit::PlainHead => (image.revision, image.arch, image.page_size) = (image.revision.min(1), 0, 0),
         Edit::NoData => image.lists.iter_mut().flatten().for_each(|row| row.body.truncate(fields_length(row.kind))),
         Edit::Drop(list, from, to) => drop(image.lists[list].drain(from..to)),
         Edit::Body(list, at, length) => image.lists[list][at].body.truncate(length),
