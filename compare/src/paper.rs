@@ -1,5 +1,6 @@
-// Document 01 in plain Rust, in its order, with the refusal's number beside each test. It is written for reading, not for speed.
-// It is what the calls are compared with where the Rust has no answer: 1 to 6, 19, 27, 28, 35 to 37, and regions' words that it can't hold.
+// Document 01 in plain Rust, in its order, with the refusal's number beside each test; and why a base is not valid, as document 02 has it. It is written for
+// reading, not for speed. It is what the calls are compared with where the Rust has no answer: 1 to 6, 19, 27, 28, 35 to 37, regions' words that it can't
+// hold, and why a base is not valid.
 // mutations.txt edits this text: each wrong copy must be caught.
 
 use calls::Calls;
@@ -422,30 +423,47 @@ fn relocations_into(s: &[u8], mask: u32, lent: &mut [u8]) -> Result<[u64; 10], R
     })
 }
 
-/// Number, row, detail, and whether the test holds of the region of this number.
-fn check(s: &[u8], mask: u32, region: u64, holds: impl Fn(&Words) -> bool) -> [u64; 4] {
+/// Number, row, detail, and what is said of the region of this number, 0 in a refusal.
+fn check(s: &[u8], mask: u32, region: u64, said: impl Fn(&Words) -> u64) -> [u64; 4] {
     match find(s, mask) {
         Ok(found) => match found.regions.get(region as usize) {
-            Some(words) => [0, 0, 0, u64::from(holds(words))],
+            Some(words) => [0, 0, 0, said(words)],
             None => [36, 0, 0, 0],
         },
         Err(Refusal(number, row, detail)) => [number, row, detail, 0],
     }
 }
 
-/// A base is valid if it is a multiple of the alignment, not below the minimum, and base + size is not above the maximum.
+const VALID: u64 = 1;
+const UNALIGNED: u64 = 2;
+const BELOW: u64 = 3;
+const ABOVE: u64 = 4;
+
+/// A base is valid if it is a multiple of the alignment, not below the minimum, and base + size is not above the maximum (document 01). Else it is said why it
+/// is not, the first that applies in this order (document 02, request 7). Of alignment 0 only 0 is a multiple.
+fn base_check(&[_, size, alignment, minimum, maximum, ..]: &Words, base: u64) -> u64 {
+    if base.checked_rem(alignment).unwrap_or(base) != 0 {
+        UNALIGNED
+    } else if base < minimum {
+        BELOW
+    } else if end(base, size) > u128::from(maximum) {
+        ABOVE
+    } else {
+        VALID
+    }
+}
+
+/// Number 3 is the check of the base.
 pub fn relocation_base_valid(s: &[u8], mask: u32, region: u64, base: u64) -> [u64; 4] {
-    check(s, mask, region, |&[_, size, alignment, minimum, maximum, ..]| {
-        base % alignment == 0 && base >= minimum && end(base, size) <= u128::from(maximum)
-    })
+    check(s, mask, region, |words| base_check(words, base))
 }
 
-/// An address is contained from base up to, not including, base + size.
+/// Number 3 is 1 if the address is contained, from base up to, not including, base + size; else 0.
 pub fn contains(s: &[u8], mask: u32, region: u64, gpa: u64) -> [u64; 4] {
-    check(s, mask, region, |&[base, size, ..]| gpa >= base && u128::from(gpa) < end(base, size))
+    check(s, mask, region, |&[base, size, ..]| u64::from(gpa >= base && u128::from(gpa) < end(base, size)))
 }
 
-// ---- the same checks by a region's eight words alone, without the sheet: 1 where it holds, else 0
+// ---- the same checks by a region's eight words alone, without the sheet: number 3 of the answer, 0 where the bytes are no region
 
 /// The words of a region's bytes. Fewer than 64 bytes are no region, and bytes behind them do not count.
 fn words_in(region: &[u8]) -> Option<Words> {
@@ -453,11 +471,8 @@ fn words_in(region: &[u8]) -> Option<Words> {
     Some(std::array::from_fn(|word| le(bytes, 8 * word, 8)))
 }
 
-/// A multiple of alignment 0 is 0 alone.
 pub fn region_base_valid(region: &[u8], base: u64) -> u64 {
-    let Some([_, size, alignment, minimum, maximum, ..]) = words_in(region) else { return 0 };
-    let past = base.checked_rem(alignment).unwrap_or(base);
-    u64::from(past == 0 && minimum <= base && u128::from(maximum) >= end(base, size))
+    words_in(region).map_or(0, |words| base_check(&words, base))
 }
 
 pub fn region_contains(region: &[u8], gpa: u64) -> u64 {
