@@ -74,9 +74,9 @@ impl Alignments {
         let [_, size, alignment, minimum, maximum, ..] = *words;
         let within = minimum <= base && base.checked_add(size).is_some_and(|end| end <= maximum);
         match answer {
-            0 if within => self.met(alignment, Met::NoMultiple),
-            0 => {}
-            _ => self.met(alignment, Met::Valid),
+            1 => self.met(alignment, Met::Valid),
+            2 if within => self.met(alignment, Met::NoMultiple),
+            _ => {}
         }
     }
 

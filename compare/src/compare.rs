@@ -2,9 +2,11 @@
 //! To the verdict there is a fourth, of plain.rs. region.rs has the checks by a region's words.
 
 use crate::alignments::Alignments;
+use crate::bases::Bases;
 use crate::{paper, plain, region};
 use calls::Calls;
 use oracle::{Headers, Judged, Relocated};
+use std::fmt::{self, Debug, Formatter};
 
 /// A call but for the sheet and `which`. The last two have neither: a region's words take the sheet's place.
 #[derive(Clone, Copy, Debug, PartialEq, Eq)]
@@ -63,6 +65,52 @@ fn at(which: u32, numbers: &Numbers) -> u64 {
     numbers.get(which as usize).copied().unwrap_or(0)
 }
 
+/// A number of an answer, as far as the Rust says it.
+#[derive(Clone, Copy)]
+pub enum Said {
+    Number(u64),
+    /// whether a base is valid: the Rust does not say why it is not
+    Valid(bool),
+}
+
+impl Said {
+    /// How a number is held to what the Rust says: they are the same, or the number is 1 exactly where the base is valid.
+    pub fn is(self, number: u64) -> bool {
+        match self {
+            Said::Number(said) => said == number,
+            Said::Valid(valid) => valid == (number == 1),
+        }
+    }
+}
+
+impl Debug for Said {
+    fn fmt(&self, f: &mut Formatter) -> fmt::Result {
+        match self {
+            Said::Number(number) => write!(f, "{number}"),
+            Said::Valid(true) => write!(f, "valid"),
+            Said::Valid(false) => write!(f, "not valid"),
+        }
+    }
+}
+
+/// The numbers of the Rust's answer, filled up with 0.
+type SaidNumbers = [Said; 10];
+
+fn said_of(answer: &[u64]) -> SaidNumbers {
+    numbers_of(answer).map(Said::Number)
+}
+
+/// One number, and 0 for the others.
+fn said_alone(which: usize, said: Said) -> SaidNumbers {
+    let mut numbers = said_of(&[]);
+    numbers[which] = said;
+    numbers
+}
+
+fn said_at(which: u32, numbers: &SaidNumbers) -> Said {
+    numbers.get(which as usize).copied().unwrap_or(Said::Number(0))
+}
+
 /// What the Rust makes of a sheet.
 pub struct Rust {
     pub headers: Option<Headers>,
@@ -97,18 +145,18 @@ impl Rust {
     }
 
     /// The Rust's answer, where it has one: not for mask 0, a region's number too high, too few words, or a sum of 2^64 or more.
-    pub fn answer(&self, call: Call, words: &mut [u8]) -> Result<Option<Numbers>, String> {
+    pub fn answer(&self, call: Call, words: &mut [u8]) -> Result<Option<SaidNumbers>, String> {
         let Some(judged) = &self.judged else {
             return Ok(None);
         };
         if call == Call::Verdict {
-            return Ok(Some(numbers_of(&judged.numbers)));
+            return Ok(Some(said_of(&judged.numbers)));
         }
         if !self.queries {
             return Ok(None);
         }
         if judged.file.is_none() {
-            return Ok(Some(numbers_of(&judged.numbers[..3])));
+            return Ok(Some(said_of(&judged.numbers[..3])));
         }
         let Some(found) = self.relocated(call.mask())? else {
             return Ok(None);
@@ -119,23 +167,23 @@ impl Rust {
             Call::BaseValid { region, base, .. } => {
                 let fits = |r: &&oracle::IgvmRelocatableRegion| base.checked_add(r.size).is_some();
                 let region = found.regions.get(region as usize).filter(fits);
-                region.map(|r| numbers_of(&[0, 0, 0, u64::from(r.relocation_base_valid(base))]))
+                region.map(|r| said_alone(3, Said::Valid(r.relocation_base_valid(base))))
             }
             Call::Contains { region, gpa, .. } => {
                 let region = found.regions.get(region as usize);
-                region.map(|r| numbers_of(&[0, 0, 0, u64::from(r.contains(gpa))]))
+                region.map(|r| said_alone(3, Said::Number(r.contains(gpa).into())))
             }
         })
     }
 }
 
-fn region_list(found: &Relocated, words: &mut [u8]) -> Option<Numbers> {
+fn region_list(found: &Relocated, words: &mut [u8]) -> Option<SaidNumbers> {
     let all: Vec<u8> = found.regions.iter().flat_map(Relocated::words).flat_map(u64::to_le_bytes).collect();
     words.get_mut(..all.len())?.copy_from_slice(&all);
     let count = found.regions.len() as u64;
     Some(match found.page_table {
-        Some([gpa, size, used, vp, vtl]) => numbers_of(&[0, 0, 0, count, 1, gpa, size, used, vp, vtl]),
-        None => numbers_of(&[0, 0, 0, count]),
+        Some([gpa, size, used, vp, vtl]) => said_of(&[0, 0, 0, count, 1, gpa, size, used, vp, vtl]),
+        None => said_of(&[0, 0, 0, count]),
     })
 }
 
@@ -253,17 +301,20 @@ pub struct Difference {
     pub between: Between,
 }
 
-/// What a comparison has seen: the refusal's number, how many regions were checked by their words too, and the alignments of those checked at a base.
+/// What a comparison has seen: the refusal's number, how many regions were checked by their words too, and the alignments and the answers of those checked at
+/// a base.
+#[derive(Default)]
 pub struct Agreed {
     pub number: u64,
     pub regions: u64,
     pub alignments: Alignments,
+    pub bases: Bases,
 }
 
 /// The answers to one call, compared: every number, one by one and all at once, every lent byte, and the bytes on either side; and what is said of a region by its words.
 pub fn check(calls: &Calls, sheet: &[u8], rust: &Rust, call: Call, extent: Extent) -> Result<Agreed, Difference> {
     if call.is_by_words() {
-        return region::check(calls, sheet, call).map(|_| Agreed { number: 0, regions: 1, alignments: Alignments::default() });
+        return region::check(calls, sheet, call).map(|_| Agreed { regions: 1, ..Agreed::default() });
     }
     let differ = |between: Between, what: String| Difference { sheet: sheet.to_vec(), call, what, between };
     let mut paper_bytes = fresh(call.lent());
@@ -277,21 +328,23 @@ pub fn check(calls: &Calls, sheet: &[u8], rust: &Rust, call: Call, extent: Exten
         let mut bytes = fresh(call.lent());
         let answer = call.ask(calls, sheet, lent_part(&mut bytes), which);
         if let Some(numbers) = by_rust {
-            if answer != at(which, &numbers) || bytes != rust_bytes {
-                return Err(differ(Between::Rust, said(which, answer, &bytes, "the Rust", &numbers, &rust_bytes)));
+            let by_rust = said_at(which, &numbers);
+            if !by_rust.is(answer) || bytes != rust_bytes {
+                let others = ("the Rust", by_rust, &numbers[..], &rust_bytes[..]);
+                return Err(differ(Between::Rust, said(which, answer, &bytes, others)));
             }
         }
         if answer != at(which, &by_paper) || bytes != paper_bytes {
-            return Err(differ(Between::Paper, said(which, answer, &bytes, "document 01", &by_paper, &paper_bytes)));
+            let others = ("document 01", at(which, &by_paper), &by_paper[..], &paper_bytes[..]);
+            return Err(differ(Between::Paper, said(which, answer, &bytes, others)));
         }
     }
     all_numbers_alike(calls, sheet, call, (&by_paper, &paper_bytes), extent).map_err(|what| differ(Between::Paper, what))?;
-    let mut alignments = Alignments::default();
-    let regions = match by_paper[0] {
-        0 => region::alike(calls, sheet, rust, call, (by_paper[3], lent_part(&mut paper_bytes)), (extent, &mut alignments))?,
-        _ => 0,
-    };
-    Ok(Agreed { number: by_paper[0], regions, alignments })
+    let mut agreed = Agreed { number: by_paper[0], ..Agreed::default() };
+    if agreed.number == 0 {
+        region::alike(calls, sheet, rust, call, (by_paper[3], lent_part(&mut paper_bytes)), (extent, &mut agreed))?;
+    }
+    Ok(agreed)
 }
 
 /// The sibling puts all numbers where they have room, fills the same words and gives number 0.
@@ -321,31 +374,63 @@ pub struct Answer {
     /// from `which` 0 to one past the answer's numbers; the one number of a check by words
     pub numbers: Vec<u64>,
     pub lent: Vec<u8>,
-    /// the Rust answered, not document 01
-    pub by_rust: bool,
+    pub by: By,
 }
 
-/// The Rust's answer where it has one, which must be document 01's, else that of document 01.
+/// Who gives an answer.
+#[derive(Clone, Copy, Debug, PartialEq, Eq)]
+pub enum By {
+    /// document 01, since the Rust has none
+    Paper,
+    Rust,
+    /// the Rust says that a base is not valid, document 02 why
+    RustAndReason,
+    /// document 02 says why a base is not valid, and the Rust has no answer
+    Reason,
+}
+
+impl By {
+    pub fn is_rust(self) -> bool {
+        matches!(self, By::Rust | By::RustAndReason)
+    }
+
+    fn of(call: Call, has_rust: bool, numbers: &Numbers) -> By {
+        let check = match call {
+            Call::BaseValid { .. } => numbers[3],
+            Call::RegionBaseValid { .. } => numbers[0],
+            _ => 0,
+        };
+        match (has_rust, check) {
+            (false, 0 | 1) => By::Paper,
+            (true, 0 | 1) => By::Rust,
+            (true, _) => By::RustAndReason,
+            (false, _) => By::Reason,
+        }
+    }
+}
+
+/// The Rust's answer where it has one, which document 01's must agree with, else that of document 01; document 02's is why a base is not valid.
 pub fn answer(sheet: &[u8], rust: &Rust, call: Call) -> Result<Answer, Difference> {
     let (mut lent, mut rust_lent) = (call.to_lend(), call.to_lend());
     let by_paper = call.by_paper(sheet, &mut lent);
     let by_rust = match call.is_by_words() {
-        true => Ok(region::by_rust(sheet, call).map(|answer| numbers_of(&[answer]))),
+        true => Ok(region::by_rust(sheet, call).map(|said| said_alone(0, said))),
         false => rust.answer(call, &mut rust_lent),
     };
-    let same = |other: Option<Numbers>| match other {
-        Some(numbers) if numbers != by_paper || rust_lent != lent => {
-            Err(format!("the Rust says {numbers:?}; document 01 says {by_paper:?}"))
+    let same = |other: Option<SaidNumbers>| match other {
+        Some(said) if !said.iter().zip(by_paper).all(|(said, number)| said.is(number)) || rust_lent != lent => {
+            Err(format!("the Rust says {said:?}; document 01 says {by_paper:?}"))
         }
         _ => Ok(other.is_some()),
     };
     let differ = |between: Between| move |what: String| Difference { sheet: sheet.to_vec(), call, what, between };
-    let by_rust = by_rust.and_then(same).map_err(differ(Between::Rust))?;
+    let has_rust = by_rust.and_then(same).map_err(differ(Between::Rust))?;
     if call == Call::Verdict {
         verdict_alike(sheet, rust, &by_paper)?;
     }
     let asked = call.numbers() + usize::from(!call.is_by_words());
-    Ok(Answer { numbers: (0..asked).map(|which| at(which as u32, &by_paper)).collect(), lent, by_rust })
+    let numbers = (0..asked).map(|which| at(which as u32, &by_paper)).collect();
+    Ok(Answer { numbers, lent, by: By::of(call, has_rust, &by_paper) })
 }
 
 /// The Rust reads what document 01 does, and plain Rust gives its verdict.
@@ -375,8 +460,9 @@ pub fn plain_alike(sheet: &[u8], by_paper: &[u64]) -> Result<(), String> {
     Ok(())
 }
 
-fn said(which: u32, answer: u64, bytes: &[u8], other: &str, numbers: &Numbers, other_bytes: &[u8]) -> String {
-    let mut text = format!("number {which} is {answer}; {other} says {}", at(which, numbers));
+/// What differs of a number, or of the bytes. Of the other: who it is, its number, all its numbers, and the bytes that it leaves.
+fn said<N: Debug>(which: u32, answer: u64, bytes: &[u8], (other, number, numbers, other_bytes): (&str, N, &[N], &[u8])) -> String {
+    let mut text = format!("number {which} is {answer}; {other} says {number:?}");
     if bytes != other_bytes {
         text += &format!("; {}", other_byte("words", bytes, other, other_bytes));
     }

@@ -2,6 +2,7 @@
 
 mod adapter;
 mod alignments;
+mod bases;
 mod caught;
 mod compare;
 mod generate;
@@ -131,10 +132,10 @@ fn all(calls: &Calls, o: &Options) -> Result<(), String> {
         samples::replay(calls, folder)?;
     }
     let mut tally = short_sheets(calls, o)?;
-    every_alignment("short", &tally)?;
+    every_answer("short", &tally)?;
     let random = random_sheets(calls, o)?;
     if o.cases >= ENOUGH {
-        every_alignment("random", &random)?;
+        every_answer("random", &random)?;
     }
     tally.add(&random);
     tally.add(&large_sheets(calls, o)?);
@@ -156,16 +157,16 @@ fn every_refusal(tally: &Tally) -> Result<(), String> {
     Ok(())
 }
 
-/// Random sheets among which every answer for each sort of alignments must be.
+/// Random sheets among which every answer for each sort of alignments must be, and each combination of what is wrong with a base.
 const ENOUGH: u64 = 100_000;
 
-/// Every answer for each sort of alignments was met.
-fn every_alignment(sort: &str, tally: &Tally) -> Result<(), String> {
-    let missing = tally.alignments.missing();
-    if !missing.is_empty() {
-        return Err(format!("{sort} sheets: of alignments these were not met: {missing:?}"));
+/// Every answer for each sort of alignments was met, and every answer and each combination of faults of a base.
+fn every_answer(sort: &str, tally: &Tally) -> Result<(), String> {
+    let (alignments, bases) = (tally.alignments.missing(), tally.bases.missing());
+    if !alignments.is_empty() || !bases.is_empty() {
+        return Err(format!("{sort} sheets: of alignments these were not met: {alignments:?}, of bases: {bases:?}"));
     }
-    println!("{sort} sheets: every answer for each sort of alignments was met");
+    println!("{sort} sheets: every answer for each sort of alignments was met, and every answer and combination of faults of a base");
     Ok(())
 }
 

@@ -1,8 +1,9 @@
 //! A sample of answers for a replay without the Rust: `args`, `data/calls-1` and so on, and `stdout` of the program crates/replay.
-//! Every answer is the Rust's, or document 01's where the Rust has none; the library is not asked.
+//! Every answer is the Rust's, or document 01's where the Rust has none, and why a base is not valid is document 02's; the library is not asked.
 //! Among them are few sheets of more than 1,024 directive rows, made for what they show.
 
-use crate::compare::{answer, to_lend, Answer, Call, Rust};
+use crate::bases::{Bases, Faults};
+use crate::compare::{answer, to_lend, Answer, By, Call, Rust};
 use crate::random::Random;
 use crate::sheet::hex;
 use crate::{caught, generate, large, paper, plan, region, shrink};
@@ -38,9 +39,10 @@ pub fn run(seed: u64, folder: &str, check: bool) -> Result<(), String> {
     catch_wrong_copies(seed, &mut cases)?;
     cases.sort_by_key(|case| (case.number(), case.code()));
     every_refusal(&cases)?;
+    every_base(&cases)?;
     let files = files(&cases);
     let lines: String = cases.iter().map(Case::line).collect();
-    let by_rust = cases.iter().filter(|case| case.answer.by_rust).count();
+    let by_rust = cases.iter().filter(|case| case.answer.by.is_rust()).count();
     let bytes: usize = files.iter().map(|(_, calls)| calls.len()).sum();
     println!("record: {} cases of {bytes} bytes in {} files, {by_rust} of them answered by the Rust", cases.len(), files.len());
     println!("  they catch every wrong copy but {}", NOT_CAUGHT.join(", "));
@@ -150,8 +152,26 @@ fn every_refusal(cases: &[Case]) -> Result<(), String> {
     Ok(())
 }
 
-/// Cases of one sort: the call, the refusal's number, the count of regions (6 for more) or whether a check holds, and whether the sheet is large.
-type Group = (u8, u64, u64, bool);
+/// Every answer and each combination of faults of a base, by the sheet and by the region's words.
+fn every_base(cases: &[Case]) -> Result<(), String> {
+    for (code, by) in [(2, "the sheet"), (4, "words")] {
+        let mut met = Bases::default();
+        for case in cases.iter().filter(|case| case.code() == code) {
+            if let Some((words, base)) = case.base() {
+                met.met(&words, base, case.check());
+            }
+        }
+        println!("  bases by {by}: {}", met.text());
+        if !met.missing().is_empty() {
+            return Err(format!("record: of bases by {by} these are not met: {:?}", met.missing()));
+        }
+    }
+    Ok(())
+}
+
+/// Cases of one sort: the call, the refusal's number, the count of regions (6 for more) or the answer of a check, what is wrong with a base, and whether the
+/// sheet is large.
+type Group = (u8, u64, u64, Option<Faults>, bool);
 
 #[derive(Default)]
 struct Sample {
@@ -223,6 +243,20 @@ impl Case {
         self.answer.numbers[0]
     }
 
+    /// The answer of a check.
+    fn check(&self) -> u64 {
+        self.answer.numbers[if self.call.is_by_words() { 0 } else { 3 }]
+    }
+
+    /// The words of the region that was checked at a base, and the base.
+    fn base(&self) -> Option<([u64; 8], u64)> {
+        match self.call {
+            Call::BaseValid { base, .. } => Some((region::words(&self.region()?)?, base)),
+            Call::RegionBaseValid { base } => Some((region::words(&self.sheet)?, base)),
+            _ => None,
+        }
+    }
+
     /// The words of the region that a check was made of.
     fn region(&self) -> Option<Vec<u8>> {
         let (Call::BaseValid { mask, region, .. } | Call::Contains { mask, region, .. }) = self.call else { return None };
@@ -249,10 +283,10 @@ impl Case {
     fn group(&self) -> Group {
         let found = match self.call {
             Call::Verdict => 0,
-            Call::RegionBaseValid { .. } | Call::RegionContains { .. } => self.answer.numbers[0],
-            _ => self.answer.numbers[3].min(6),
+            _ => self.check().min(6),
         };
-        (self.code(), self.number(), found, self.is_large())
+        let faults = self.base().filter(|_| !self.is_large()).map(|(words, base)| Faults::of(&words, base));
+        (self.code(), self.number(), found, faults, self.is_large())
     }
 
     /// How many cases are taken of one group.
@@ -262,7 +296,8 @@ impl Case {
             (true, _, _) => 0,
             (_, 0, Call::Verdict) => 24,
             (_, 0, Call::Relocations { .. }) => 8,
-            (_, _, Call::RegionBaseValid { .. } | Call::RegionContains { .. }) => 5,
+            (_, _, Call::RegionContains { .. }) => 5,
+            (_, 0, Call::BaseValid { .. } | Call::RegionBaseValid { .. }) if self.check() > 1 => 4,
             (_, 0, _) => 12,
             (_, 35..=37, _) | (_, _, Call::Verdict) => 6,
             _ => 1,
@@ -272,16 +307,27 @@ impl Case {
     /// How many cases are taken of one call and answer: fewer where it names a row, so that rows and details differ.
     fn room_of_answer(&self) -> usize {
         match (self.number(), self.call) {
-            (_, Call::RegionBaseValid { .. } | Call::RegionContains { .. }) => 5,
-            (0, Call::BaseValid { .. } | Call::Contains { .. }) => 12,
+            (_, Call::RegionContains { .. }) => 5,
+            (0, Call::Contains { .. }) => 12,
+            (0, Call::BaseValid { .. } | Call::RegionBaseValid { .. }) => usize::MAX,
             (35..=37, _) => 6,
             _ if self.answer.numbers[1] == 0 => 4,
             _ => 2,
         }
     }
 
-    /// A head of 32 bytes, then the sheet or the region's bytes: call, who answered (1 the Rust), two zero bytes, mask u32, region u64, base or gpa u64, lent bytes u32,
-    /// how many bytes follow u32.
+    /// Who gave the answer, as a head has it and as the line begins.
+    fn answered(&self) -> (u8, &'static str) {
+        match self.answer.by {
+            By::Paper => (0, "01"),
+            By::Rust => (1, "rust"),
+            By::RustAndReason => (2, "rust 02"),
+            By::Reason => (3, "02"),
+        }
+    }
+
+    /// A head of 32 bytes, then the sheet or the region's bytes: call, who answered, two zero bytes, mask u32, region u64, base or gpa u64, lent bytes u32, how many
+    /// bytes follow u32.
     fn bytes(&self) -> Vec<u8> {
         let (region, value, lent) = match self.call {
             Call::Verdict => (0, 0, 0),
@@ -290,7 +336,7 @@ impl Case {
             Call::Contains { region, gpa, .. } => (region, gpa, 0),
             Call::RegionBaseValid { base: value } | Call::RegionContains { gpa: value } => (0, value, 0),
         };
-        let mut bytes = vec![self.code(), u8::from(self.answer.by_rust), 0, 0];
+        let mut bytes = vec![self.code(), self.answered().0, 0, 0];
         bytes.extend(self.call.mask().to_le_bytes());
         bytes.extend(region.to_le_bytes());
         bytes.extend(value.to_le_bytes());
@@ -302,7 +348,7 @@ impl Case {
 
     /// Who answered, the call, every number, of a region list the lent bytes afterwards, eight to a group, and that the sibling's answer is the same.
     fn line(&self) -> String {
-        let who = if self.answer.by_rust { "rust" } else { "01" };
+        let who = self.answered().1;
         let call = match self.call {
             Call::Verdict => "verdict".into(),
             Call::Relocations { mask, lent } => format!("relocations mask {mask} lent {lent}"),

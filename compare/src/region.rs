@@ -2,41 +2,51 @@
 //! by the sheet.
 
 use crate::alignments::{self, Alignments};
-use crate::compare::{Between, Call, Difference, Extent, Rust};
+use crate::bases::Bases;
+use crate::compare::{Agreed, Between, Call, Difference, Extent, Rust, Said};
 use crate::random::Random;
 use crate::{generate, paper, plan, short};
 use calls::Calls;
 use oracle::Relocated;
 
 /// The words of a region's bytes, if they are as many.
-fn words(region: &[u8]) -> Option<[u64; 8]> {
+pub fn words(region: &[u8]) -> Option<[u64; 8]> {
     let word = |at: usize| u64::from_le_bytes(std::array::from_fn(|byte| region[8 * at + byte]));
     (region.len() >= 64).then(|| std::array::from_fn(word))
 }
 
 /// The Rust's answer, where it has one: not for words that no region of its holds, for alignment 0, or for a sum of 2^64 or more.
-pub fn by_rust(region: &[u8], call: Call) -> Option<u64> {
+pub fn by_rust(region: &[u8], call: Call) -> Option<Said> {
     let region = words(region).and_then(Relocated::region)?;
     match call {
         Call::RegionBaseValid { base } => {
             base.checked_add(region.size).filter(|_| region.relocation_alignment != 0)?;
-            Some(u64::from(region.relocation_base_valid(base)))
+            Some(Said::Valid(region.relocation_base_valid(base)))
         }
         Call::RegionContains { gpa } => {
             region.base_gpa.checked_add(region.size)?;
-            Some(u64::from(region.contains(gpa)))
+            Some(Said::Number(region.contains(gpa).into()))
         }
         _ => None,
     }
 }
 
-/// The base check as plain safe Rust has it: 1 where it holds, else 0. Of alignment 0 only 0 is a multiple. It does not stand in plain.rs: the verdict there
-/// is then compiled otherwise, and takes 1.13 of the time on 64 regions.
+/// The base check as plain safe Rust has it: 1 valid, 2 unaligned, 3 below the minimum, 4 above the maximum, the first that applies; 0 where there is no
+/// region. Of alignment 0 only 0 is a multiple. It does not stand in plain.rs: the verdict there is then compiled otherwise, and takes 1.13 of the time on 64
+/// regions.
 #[inline(never)]
 pub fn by_plain(region: &[u8], base: u64) -> u64 {
     let Some([_, size, alignment, minimum, maximum, ..]) = words(region) else { return 0 };
-    let is_multiple = base.checked_rem(alignment).unwrap_or(base) == 0;
-    u64::from(is_multiple && minimum <= base && base.checked_add(size).is_some_and(|end| end <= maximum))
+    if base.checked_rem(alignment).unwrap_or(base) != 0 {
+        return 2;
+    }
+    if base < minimum {
+        return 3;
+    }
+    match base.checked_add(size) {
+        Some(end) if end <= maximum => 1,
+        _ => 4,
+    }
 }
 
 /// The answers to a check by words, compared. Gives the answer.
@@ -44,9 +54,10 @@ pub fn check(calls: &Calls, region: &[u8], call: Call) -> Result<u64, Difference
     let answer = call.ask(calls, region, &mut [], 0);
     let by_paper = call.ask(&paper::CALLS, region, &mut [], 0);
     let differ = |between: Between, what: String| Difference { sheet: region.to_vec(), call, what, between };
-    for (other, between, who) in [(by_rust(region, call), Between::Rust, "the Rust"), (Some(by_paper), Between::Paper, "document 01")] {
-        if let Some(other) = other.filter(|&other| other != answer) {
-            return Err(differ(between, format!("the answer is {answer}; {who} says {other}")));
+    let others = [(by_rust(region, call), Between::Rust, "the Rust"), (Some(Said::Number(by_paper)), Between::Paper, "document 01")];
+    for (other, between, who) in others {
+        if let Some(other) = other.filter(|other| !other.is(answer)) {
+            return Err(differ(between, format!("the answer is {answer}; {who} says {other:?}")));
         }
     }
     if let Call::RegionBaseValid { base } = call {
@@ -58,42 +69,44 @@ pub fn check(calls: &Calls, region: &[u8], call: Call) -> Result<u64, Difference
     Ok(answer)
 }
 
-/// Counts the alignment of a region that was checked at a base.
-fn count_base(met: &mut Alignments, region: &[u8], call: Call, answer: u64) {
+/// Counts the alignment of a region that was checked at a base, and the answer.
+fn count_base((alignments, bases): (&mut Alignments, &mut Bases), region: &[u8], call: Call, answer: u64) {
     if let (Call::RegionBaseValid { base }, Some(words)) = (call, words(region)) {
-        met.base(&words, base, answer);
+        alignments.base(&words, base, answer);
+        bases.met(&words, base, answer);
     }
 }
 
 // ---- the regions of a sheet
 
 /// Of an accepted answer: every region of a list at a base and an address, or the region of a check. `found` is how many regions the list has, and their
-/// words. Gives how many regions were checked, and counts the alignments of those checked at a base.
+/// words. Counts the regions that were checked, and the alignments and the answers of those checked at a base.
 pub fn alike(
     calls: &Calls,
     sheet: &[u8],
     rust: &Rust,
     call: Call,
     found: (u64, &[u8]),
-    (extent, met): (Extent, &mut Alignments),
-) -> Result<u64, Difference> {
+    (extent, agreed): (Extent, &mut Agreed),
+) -> Result<(), Difference> {
     match call {
         Call::Relocations { mask, .. } => {
             for (region, bytes) in (0..found.0).zip(found.1.chunks_exact(64)) {
                 for call in places(mask, region, bytes, extent) {
-                    same(calls, sheet, rust, call, bytes, met)?;
+                    same(calls, sheet, rust, call, bytes, agreed)?;
                 }
             }
-            Ok(found.0)
+            agreed.regions += found.0;
         }
         Call::BaseValid { mask, region, .. } | Call::Contains { mask, region, .. } => {
             let mut lent = [0; 64 * 64];
             (calls.relocations)(sheet, mask, &mut lent, 0);
-            same(calls, sheet, rust, call, &lent[64 * region as usize..][..64], met)?;
-            Ok(1)
+            same(calls, sheet, rust, call, &lent[64 * region as usize..][..64], agreed)?;
+            agreed.regions += 1;
         }
-        Call::Verdict | Call::RegionBaseValid { .. } | Call::RegionContains { .. } => Ok(0),
+        Call::Verdict | Call::RegionBaseValid { .. } | Call::RegionContains { .. } => {}
     }
+    Ok(())
 }
 
 /// A base and an address for a region of a list: others for the next region, and for another case.
@@ -105,15 +118,15 @@ fn places(mask: u32, region: u64, bytes: &[u8], extent: Extent) -> [Call; 2] {
 }
 
 /// A check by the region's words says what it says by the sheet, and what the Rust says of its own region.
-fn same(calls: &Calls, sheet: &[u8], rust: &Rust, call: Call, region: &[u8], met: &mut Alignments) -> Result<(), Difference> {
+fn same(calls: &Calls, sheet: &[u8], rust: &Rust, call: Call, region: &[u8], agreed: &mut Agreed) -> Result<(), Difference> {
     let answer = check(calls, region, call.by_words())?;
-    count_base(met, region, call.by_words(), answer);
+    count_base((&mut agreed.alignments, &mut agreed.bases), region, call.by_words(), answer);
     let differ = |between: Between, what: String| Difference { sheet: sheet.to_vec(), call, what, between };
     let by_rust = rust.answer(call, &mut []).map_err(|message| differ(Between::Rust, message))?.map(|numbers| numbers[3]);
-    let by_sheet = Some(call.ask(calls, sheet, &mut [], 3));
+    let by_sheet = Some(Said::Number(call.ask(calls, sheet, &mut [], 3)));
     for (other, between, who) in [(by_rust, Between::Rust, "the Rust says"), (by_sheet, Between::Paper, "by the sheet it is")] {
-        if let Some(other) = other.filter(|&other| other != answer) {
-            return Err(differ(between, format!("by the region's words the answer is {answer}; {who} {other}")));
+        if let Some(other) = other.filter(|other| !other.is(answer)) {
+            return Err(differ(between, format!("by the region's words the answer is {answer}; {who} {other:?}")));
         }
     }
     Ok(())
@@ -126,11 +139,10 @@ fn same(calls: &Calls, sheet: &[u8], rust: &Rust, call: Call, region: &[u8], met
 pub struct Counts {
     pub checks: u64,
     with_rust: u64,
-    /// bases that are not valid, and those that are
-    valid: [u64; 2],
     /// addresses that are not contained, and those that are
     contained: [u64; 2],
     alignments: Alignments,
+    bases: Bases,
 }
 
 impl Counts {
@@ -138,22 +150,24 @@ impl Counts {
         self.checks += 1;
         let answer = check(calls, region, call)?;
         self.with_rust += u64::from(by_rust(region, call).is_some());
-        let counted = if let Call::RegionBaseValid { .. } = call { &mut self.valid } else { &mut self.contained };
-        counted[answer as usize] += 1;
-        count_base(&mut self.alignments, region, call, answer);
+        if let Call::RegionContains { .. } = call {
+            self.contained[answer as usize] += 1;
+        }
+        count_base((&mut self.alignments, &mut self.bases), region, call, answer);
         Ok(())
     }
 
-    /// What was seen, if both checks gave both answers, the base check for each sort of alignments, and the Rust some.
+    /// What was seen, if both checks gave every answer, the base check for each sort of alignments and each combination of faults, and the Rust some.
     pub fn seen(&self) -> Result<String, String> {
-        let Counts { checks, with_rust, valid, contained, alignments } = self;
+        let Counts { checks, with_rust, contained, alignments, bases } = self;
         let text = format!(
-            "{checks}, {with_rust} of them with the Rust too; {} bases valid, {} addresses contained; bases valid and no multiple of alignments {}",
-            valid[1],
+            "{checks}, {with_rust} of them with the Rust too; {} addresses contained; bases: {}; bases valid and no multiple of alignments {}",
             contained[1],
+            bases.text(),
             alignments.bases()
         );
-        if [[*with_rust, 1], *valid, *contained].as_flattened().contains(&0) || !alignments.missing_bases().is_empty() {
+        let is_missing = !alignments.missing_bases().is_empty() || !bases.missing().is_empty();
+        if is_missing || [*with_rust, contained[0], contained[1]].contains(&0) {
             return Err(format!("region checks: some answer was not met: {text}"));
         }
         Ok(text)

@@ -45,6 +45,7 @@ impl<'a> Run<'a> {
             self.tally.queries[agreed.number as usize] += 1;
             self.tally.regions += agreed.regions;
             self.tally.alignments.add(&agreed.alignments);
+            self.tally.bases.add(&agreed.bases);
         }
         Ok(())
     }

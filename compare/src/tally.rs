@@ -1,6 +1,7 @@
 //! What a run has compared, counted.
 
 use crate::alignments::Alignments;
+use crate::bases::Bases;
 
 /// Counts by refusal: 0 for accepted or answered, then 1 to 37.
 pub type Histogram = [u64; 38];
@@ -25,6 +26,8 @@ pub struct Tally {
     pub regions: u64,
     /// alignments of regions, with the verdicts and the base checks
     pub alignments: Alignments,
+    /// base checks of regions, by answer and by what is wrong
+    pub bases: Bases,
     /// rows of kind 46 for which the Rust's error names X64VbsVpContext
     pub names_other_kind: u64,
 }
@@ -42,6 +45,7 @@ impl Default for Tally {
             queries: none,
             regions: 0,
             alignments: Alignments::default(),
+            bases: Bases::default(),
             names_other_kind: 0,
         }
     }
@@ -53,6 +57,7 @@ impl Tally {
         self.with_rust += other.with_rust;
         self.regions += other.regions;
         self.alignments.add(&other.alignments);
+        self.bases.add(&other.bases);
         self.names_other_kind += other.names_other_kind;
         for number in 0..38 {
             self.verdicts[number] += other.verdicts[number];
@@ -85,6 +90,7 @@ impl Tally {
         }
         println!("{} regions were checked by their words too", self.regions);
         self.alignments.print();
+        println!("bases: {}", self.bases.text());
         println!("the Rust named X64VbsVpContext for a row of kind 46: {} times", self.names_other_kind);
     }
 }

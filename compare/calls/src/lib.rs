@@ -1,7 +1,8 @@
 //! The calls of a host, by whatever answers them: the library across C linkage, document 01 in Rust, or a wrong copy of that.
 
 /// The calls. `which` names the number of the answer that a call returns; its sibling puts all numbers into the bytes lent for them and returns
-/// number 0. A region's bytes are its eight words, as `relocations` puts them.
+/// number 0. A region's bytes are its eight words, as `relocations` puts them. The check of a base is 1 valid, 2 unaligned, 3 below the minimum, 4 above the
+/// maximum, or 0 in a refusal and in bytes that are no region; that of an address is 1 or 0.
 #[derive(Clone, Copy)]
 pub struct Calls {
     pub verdict: fn(sheet: &[u8], which: u32) -> u64,
