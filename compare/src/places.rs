@@ -84,8 +84,8 @@ impl Placed {
 
     /// Nanoseconds of a call, after one that is not measured.
     fn nanoseconds(&self, case: &Case, times: usize) -> f64 {
-        if let Some(valid) = self.region_base_valid.filter(|_| case.has_bases()) {
-            let took = case.check_bases(|region, base| unsafe { valid(region.as_ptr(), region.len(), base) }, times);
+        if let Some(check) = self.region_base_valid.filter(|_| case.has_bases()) {
+            let took = case.check_bases(|region, base| unsafe { check(region.as_ptr(), region.len(), base) }, times);
             return case.nanoseconds(took, times);
         }
         let mut lent = [0; 64 * 64];

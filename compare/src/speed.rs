@@ -186,14 +186,14 @@ impl Case {
         }
     }
 
-    /// How many of the bases are valid by this check. A check begins when the one before it has answered: else the processor divides for several at
-    /// once.
-    fn valid_bases(&self, valid: impl Fn(&[u8], u64) -> u64) -> u64 {
+    /// How many of the bases are valid by this check, which answers 1 for them. A check begins when the one before it has answered: else the processor divides
+    /// for several at once.
+    fn valid_bases(&self, check: impl Fn(&[u8], u64) -> u64) -> u64 {
         let Bases(first) = self.question else { unreachable!("no bases are checked") };
         let (first, none, region) = (black_box(first), black_box(0), black_box(&self.region[..]));
         let one_more = |(count, answer): (u64, u64), base: u64| {
-            let answer = valid(region, first + 0x1000 * base + (answer & none));
-            (count + answer, answer)
+            let answer = check(region, first + 0x1000 * base + (answer & none));
+            (count + u64::from(answer == 1), answer)
         };
         (0..BASES).fold((0, 0), one_more).0
     }
@@ -288,11 +288,12 @@ impl Case {
         std::array::from_fn(|word| u64::from_le_bytes(std::array::from_fn(|byte| self.region[8 * word + byte])))
     }
 
-    /// All bases by this check, so many times, after once that is not measured. As many must be valid as document 01 says.
-    pub fn check_bases(&self, valid: impl Fn(&[u8], u64) -> u64, times: usize) -> Duration {
+    /// All bases by this check, so many times, after once that is not measured. As many must be valid as document 01 says. Of the others the check may say why
+    /// they are not, or 0: the Rust and an older build do.
+    pub fn check_bases(&self, check: impl Fn(&[u8], u64) -> u64, times: usize) -> Duration {
         let count = self.valid_bases(paper::region_base_valid);
-        assert_eq!(self.valid_bases(&valid), count, "{}: valid bases", self.name);
-        time(vec![(); times], |()| assert_eq!(self.valid_bases(&valid), count))
+        assert_eq!(self.valid_bases(&check), count, "{}: valid bases", self.name);
+        time(vec![(); times], |()| assert_eq!(self.valid_bases(&check), count))
     }
 
     /// The least time of a call of each side, in nanoseconds. The sides take turns.
