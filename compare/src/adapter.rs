@@ -181,7 +181,7 @@ mod host {
     use crate::random::Random;
     use crate::{paper, plan};
     use oracle::{IgvmRelocatableRegion, Relocated};
-    use sapyullu::{List, PageTableRegion, Place};
+    use sapyullu::{BaseCheck, List, PageTableRegion, Place, Refusal};
 
     /// The verdict is document 01's.
     pub fn same_verdict(sheet: &[u8]) -> Result<(), String> {
@@ -236,19 +236,23 @@ mod host {
     }
 
     /// A base and an address of a region, by its methods and by the functions on the sheet, are what the Rust says; a base whose sum reaches 2^64 is not valid.
+    /// Of a base the number is document 02's.
     fn same_region(
         random: &mut Random,
         (sheet, mask, number): (&[u8], u32, u64),
         region: &sapyullu::IgvmRelocatableRegion,
         other: &IgvmRelocatableRegion,
     ) -> Result<(), String> {
-        let words = Some(Relocated::words(other));
-        let (base, gpa) = (random.pick(&plan::bases(words.as_ref())), random.pick(&plan::addresses(words.as_ref())));
-        let valid = [Ok(region.relocation_base_valid(base)), sapyullu::relocation_base_valid(sheet, mask, number, base)];
+        let words = Relocated::words(other);
+        let (base, gpa) = (random.pick(&plan::bases(Some(&words))), random.pick(&plan::addresses(Some(&words))));
+        let checks = [Ok(region.relocation_base_valid(base)), sapyullu::relocation_base_valid(sheet, mask, number, base)];
         let contained = [Ok(region.contains(gpa)), sapyullu::contains(sheet, mask, number, gpa)];
         let by_rust = (base.checked_add(other.size).is_some_and(|_| other.relocation_base_valid(base)), other.contains(gpa));
-        if valid != [Ok(by_rust.0); 2] || contained != [Ok(by_rust.1); 2] {
-            return Err(format!("base {base:#x}: {valid:?}, address {gpa:#x}: {contained:?}; the Rust says {by_rust:?}"));
+        let number = paper::region_base_valid(&words.map(u64::to_le_bytes).concat(), base);
+        let same = |check: &Result<BaseCheck, Refusal>| check.as_ref().is_ok_and(|c| c.is_valid() == by_rust.0 && c.number() == number);
+        if !checks.iter().all(same) || contained != [Ok(by_rust.1); 2] {
+            let said = format!("base {base:#x}: {checks:?}, address {gpa:#x}: {contained:?}");
+            return Err(format!("{said}; the Rust says {by_rust:?}, document 02 {number}"));
         }
         Ok(())
     }

@@ -23,8 +23,9 @@ mod linked {
         let sheet = adapter::sheet(headers).expect("headers that a sheet can hold");
         sapyullu::verdict(&sheet).expect("an accepted image");
         let found = sapyullu::relocations(&sheet, 1).expect("a list of an accepted image");
-        let holds =
-            |region: &&sapyullu::IgvmRelocatableRegion| region.relocation_base_valid(region.base_gpa) & region.contains(region.base_gpa);
+        let holds = |region: &&sapyullu::IgvmRelocatableRegion| {
+            region.relocation_base_valid(region.base_gpa).is_valid() & region.contains(region.base_gpa)
+        };
         (found.regions.iter().filter(holds).count(), (sheet, found))
     }
 }
