@@ -10,7 +10,7 @@ use libc::STDOUT_FILENO;
 pub struct Call {
     // 0 verdict, 1 relocations, 2 relocation_base_valid, 4 region_base_valid, 5 region_contains, else contains
     pub code: u8,
-    // 0 document 01, else the Rust
+    // 0 document 01, 1 the Rust, 2 the Rust that a base is not valid and document 02 why, else document 02
     pub answered: u8,
     pub mask: u32,
     pub region: u64,
@@ -76,10 +76,12 @@ fn write_call(c: Call) {
 }
 
 fn write_answered(c: Call) {
-    if c.answered == 0 {
-        write(b"01 ");
-    } else {
-        write(b"rust ");
+    let answered = c.answered;
+    match answered {
+        0 => write(b"01 "),
+        1 => write(b"rust "),
+        2 => write(b"rust 02 "),
+        _ => write(b"02 "),
     }
 }
 
