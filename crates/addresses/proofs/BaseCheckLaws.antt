@@ -1,4 +1,5 @@
 -- The check of a proposed base: each answer is given exactly where it is true, the numbers tell the answers apart, and valid is what it was.
+use native.Mathlib.Nat.{add-comm}
 use Rattle.rows.proofs.Kit.{ℕ, _+_, _≡_, refl, sym, ap, _∙_, _↔_, Bool, true, false, cond, not, _&&_, eqb, leb, ltb, decLt, arith, lt-ltb, ltb-true, ltb-false, le-ltb, le-leb, lt-leb}
 use Rattle.addresses.specs.{declared.BaseCheck.BaseCheck, declared.BaseCheck.the-variants.{Valid, Unaligned, BelowMinimum, AboveMaximum}, Addresses.{isMultiple, baseValid}, BaseChecks.{baseCheck, checkNumber, isValid, Says}}
 
@@ -78,8 +79,8 @@ module _ (alignment size minimum maximum base : ℕ) where
       cases false false r = refl
 
   -- the answers chosen one inside the other are the check
-  pub in-order : {multiple over : Bool} {above below first : BaseCheck} → over ≡ ltb maximum (base + size) → multiple ≡ isMultiple base alignment
+  pub in-order : {multiple over : Bool} {above below first : BaseCheck} → over ≡ ltb maximum (size + base) → multiple ≡ isMultiple base alignment
       → above ≡ cond over AboveMaximum Valid → below ≡ cond (ltb base minimum) BelowMinimum above → first ≡ cond (not multiple) Unaligned below
       → first ≡ baseCheck alignment size minimum maximum base
   unfolding baseCheck
-  in-order o m a b f = rw (f, b, a, m, o)
+  in-order o m a b f = rw (f, b, a, m, o, add-comm size base)

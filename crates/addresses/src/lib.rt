@@ -110,11 +110,12 @@ fn answer_if(test: bool, answer: BaseCheck, other: BaseCheck) -> BaseCheck
     other
 }
 
-// The first that applies. All three tests are made: so bases of all sorts take the same time, with no branch to guess.
+// The first that applies. All three tests are made: so bases of all sorts take the same time, with no branch to guess. The size comes before the base in the sum:
+// so nothing is subtracted that waits for the base.
 pub fn base_check(alignment: u64, size: u64, minimum: u64, maximum: u64, base: u64) -> BaseCheck
     ensures { λ r. ⌜ r ≡ baseCheck alignment size minimum maximum base ⌝ }
 {
-    let above = before_end(maximum, base, size);
+    let above = before_end(maximum, size, base);
     answer_if(
         !is_multiple(base, alignment),
         BaseCheck::Unaligned,
