@@ -1,6 +1,6 @@
 /* Holds libigvm.a to what include/igvm.h says beside the proved contracts: calls and their siblings agree, on several threads at once, within IGVM_STACK_BYTES of
- * stack, a base check answers one of the four, and lent bytes that overlap the sheet get what others get. The arguments are files of sheets. It writes the stack that each call takes on four images made
- * here; the last line is `N sheets, S bytes of stack`, the most that any call took. */
+ * stack, a base check answers one of the four, and lent bytes that overlap the sheet get what others get. The arguments are files of sheets. It writes the stack that
+ * each call takes on four images made here; the last line is `N sheets, S bytes of stack`, the most that any call took. */
 #define _GNU_SOURCE
 #include <pthread.h>
 #include <stdio.h>

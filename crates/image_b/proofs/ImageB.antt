@@ -2,7 +2,7 @@
 use lib.Count.{ones, onesIn}
 use Rattle.rows.{proofs.Kit.refl, specs.Below.{anyBelow, firstBelow, sumBelow, nthBelow}}
 use Rattle.le.specs.Le.{leAt}
-use Rattle.igvm_defs.{specs.Refusals.{isFault, isRefusal, inRow, orElse, firstFault}, specs.Kinds.{spans, kindOf, lengthOk}, specs.Platforms.{platformTypes, isPlatformType, platformTypeOf}, specs.Vtls.vtlOf, proofs.Runs._⨾_}
+use Rattle.igvm_defs.{specs.Refusals.{isFault, isRefusal, inRow, orElse, firstFault}, specs.Kinds.{spans, kindOf, lengthOk}, specs.Platforms.{platformTypes, isPlatformType, platformTypeOf}, specs.Vtls.vtlOf}
 use Rattle.masks.specs.Masks.{shares, matches, isOneBit}
 use Rattle.addresses.{specs.Addresses.{isMultiple, contains, meets, endsBeyond}, specs.BaseChecks.baseCheck}
 use Rattle.sheet.{specs.Head.{limits, headOf, layoutOk, withinLimits, startFault, revisionOf, pageSizeFault}, specs.Table.{rowKind, rowLength, offsetOf, bodyOf}, specs.Read.{listAt, codesOk, rowFault, endFault, rowsRefusal, readRefusal, sheetRefusal}}
@@ -14,6 +14,7 @@ use Rattle.rules.{specs.Regions.{regionPasses, tablesShare, overlap}, specs.Pla
 use Rattle.answers.{specs.Verdict.verdictRefusal, specs.Relocations.{maskFault, regionFault, checkRefusal, checkOf, answerOf}}
 use Rattle.image_b.specs.{ImageB.imageB, Claims.{claims, readings, bases, AllTrue}}
 
+-- one proof for each claim, each held against its own: so a wrong claim is refused where it stands
 pub image-b : AllTrue claims × AllTrue readings × AllTrue bases
 unfolding
     ones onesIn anyBelow firstBelow sumBelow nthBelow leAt isFault isRefusal inRow orElse firstFault spans kindOf lengthOk platformTypes
@@ -23,7 +24,7 @@ unfolding
     initializationFault wrongContextArch badArea ownDirectiveFault directiveFault noContext noPlatform noMatchingVpContext platformsRefusal initializationsRefusal
     directivesRefusal headersRefusal regionCount regionAt sheetHeaders verdictRefusal maskFault regionFault checkRefusal checkOf answerOf
 image-b = (
-  refl ⨾ refl ⨾ refl ⨾ refl ⨾ refl ⨾ refl ⨾ refl ⨾ refl ⨾ refl ⨾ refl ⨾ refl ⨾ refl ⨾ refl ⨾ tt,
-  refl ⨾ refl ⨾ refl ⨾ refl ⨾ refl ⨾ refl ⨾ refl ⨾ refl ⨾ refl ⨾ refl ⨾ refl ⨾ refl ⨾ refl ⨾ refl ⨾ refl ⨾ tt,
-  refl ⨾ refl ⨾ refl ⨾ refl ⨾ refl ⨾ refl ⨾ refl ⨾ refl ⨾ refl ⨾ refl ⨾ refl ⨾ tt,
+  (refl, (refl, (refl, (refl, (refl, (refl, (refl, (refl, (refl, (refl, (refl, (refl, (refl, tt))))))))))))),
+  (refl, (refl, (refl, (refl, (refl, (refl, (refl, (refl, (refl, (refl, (refl, (refl, (refl, (refl, (refl, tt))))))))))))))),
+  (refl, (refl, (refl, (refl, (refl, (refl, (refl, (refl, (refl, (refl, (refl, tt))))))))))),
 )
