@@ -56,10 +56,15 @@ power-test a p l =
 
 -- ---- alignments
 
--- the low bits tell the multiples of a power of two
-pub low-bits : (x a : ℕ) → isPowerOfTwo a ≡ true → eqb (bitAnd x (a - 1)) 0 ≡ isMultiple x a
+-- the low bits are the remainder by a power of two
+pub low-remainder : (x a : ℕ) → isPowerOfTwo a ≡ true → bitAnd x (a - 1) ≡ x % a
 unfolding isPowerOfTwo
-low-bits x a h = let (k, m, t) = some-below 64 (λ k. eqb a (2 ^ k)) h in rw (eqb-true a (2 ^ k) t) (tests-agree k x)
+low-remainder x a h = let (k, m, t) = some-below 64 (λ k. eqb a (2 ^ k)) h in rw (eqb-true a (2 ^ k) t) (and-mask x k)
+
+-- and tell its multiples
+pub low-bits : (x a : ℕ) → isPowerOfTwo a ≡ true → eqb (bitAnd x (a - 1)) 0 ≡ isMultiple x a
+unfolding isMultiple
+low-bits x a h = rw (low-remainder x a h)
 
 -- of any other alignment they do not: the alignment itself is a multiple, and has one of the low bits
 pub low-bits-fail : (a : ℕ) → 0 < a → a < 18446744073709551616 → isPowerOfTwo a ≡ false → (eqb (bitAnd a (a - 1)) 0 ≡ false) × (isMultiple a a ≡ true)
