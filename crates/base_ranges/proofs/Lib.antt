@@ -1,0 +1,4 @@
+pub mod RangeLaws
+pub mod RangeExamples
+mod NearestLaws
+mod PartLaws

@@ -1,0 +1,2 @@
+pub mod BaseRanges
+pub mod Nearest
