@@ -1,11 +1,11 @@
 -- What is known of a sheet where a call is not refused.
-use Rattle.rows.{proofs.Kit.{_≡_, refl, Bool, false, false≢true, List, _≢_, Option, none, some, ℕ, _*_, _/_, _≤_, _<_, eqb, ltb, ltb-false, eqb-false, arith}, specs.Below.nthBelow, specs.Rows.{Rows, rowAt}, proofs.Bools.and-parts, proofs.BelowLaws.{nth-says, nth-none}}
-use Rattle.igvm_defs.{specs.declared.Refusal.Refusal, specs.Refusals.{noFault, isRefusal, inRow}, proofs.RefusalLaws.row-refusal}
+use Rattle.rows.{proofs.Kit.{_≡_, refl, _∙_, Bool, false, false≢true, not, not-false, List, _≢_, Option, none, some, ℕ, _*_, _/_, _≤_, _<_, eqb, ltb, ltb-false, ltb-true, eqb-false, arith}, specs.Below.nthBelow, specs.Rows.{Rows, rowAt}, proofs.Bools.and-parts, proofs.BelowLaws.{nth-says, nth-none}}
+use Rattle.igvm_defs.{specs.declared.Refusal.Refusal, specs.Refusals.{noFault, noRefusal, isRefusal, inRow}, proofs.RefusalLaws.{row-refusal, orElse-later, no-fault-row}}
 use Rattle.sheet.{specs.Head.Limits, specs.Read.{Readable, sheetRefusal}, proofs.Readable.sheet-says}
 use Rattle.masks.specs.Masks.{matches}
 use Rattle.initialization_header.{specs.declared.IgvmInitializationHeader.IgvmInitializationHeader, specs.Fields.{initializationFields, kindNumber}}
 use Rattle.rules.{specs.declared.PageTableRegion.PageTableRegion, specs.Relocations.{isRelocatable, relocatableOf, regionCount, regionAt}, specs.Options.then, proofs.FaultLaws.{refuse-none, else-none}}
-use Rattle.answers.specs.{Verdict.verdictRefusal, Relocations.{sheetInitializations, maskFault, wordsFault, relocationsRefusal, foundOf}}
+use Rattle.answers.specs.{Verdict.verdictRefusal, Relocations.{sheetInitializations, maskFault, wordsFault, relocationsRefusal, foundOf, regionFault, checkRefusal}}
 
 -- an accepted sheet is readable
 pub accepted-readable : (l : Limits) (s : List ℕ) → isRefusal (verdictRefusal l s) ≡ false → Readable l s
@@ -44,6 +44,17 @@ list-says l s given bytes f =
     let z = refuse-none (eqb given 0) 34 0 noFault .0 (rw row-refusal at m) .0 in
     let r = refuse-none (ltb (bytes / 8) (8 * regionsOf s given)) 36 0 noFault .0 (rw row-refusal at w) .0 in
     (v, eqb-false given 0 z, ltb-false (bytes / 8) (8 * regionsOf s given) r)
+
+-- a check of one region that is not refused: the file is accepted, the mask is not 0 and has a region of this number; and nothing is refused
+pub check-says : (l : Limits) (s : List ℕ) (given region : ℕ) → isRefusal (checkRefusal l s given region) ≡ false
+    → (isRefusal (verdictRefusal l s) ≡ false) × (given ≢ 0) × (region < regionsOf s given) × (checkRefusal l s given region ≡ noRefusal)
+unfolding checkRefusal maskFault regionFault
+check-says l s given region f =
+    let (v, own) = else-none (verdictRefusal l s) _ .0 f in
+    let (m, w) = else-none (inRow 0 (maskFault given)) _ .0 own in
+    let z = refuse-none (eqb given 0) 34 0 noFault .0 (rw row-refusal at m) .0 in
+    let r = refuse-none (not (ltb region (regionsOf s given))) 35 0 noFault .0 (rw row-refusal at w) .0 in
+    (v, eqb-false given 0 z, ltb-true region (regionsOf s given) (not-false (ltb region (regionsOf s given)) r), orElse-later _ _ v ∙ orElse-later _ _ m ∙ no-fault-row 0 _ (rw row-refusal at w))
 
 pub found-count : (count : ℕ) (table : Option PageTableRegion) (r : Refusal) → foundOf count table r .count ≡ count
 found-count count none r = refl

@@ -5,7 +5,7 @@ use Rattle.sheet.specs.Head.{Limits}
 use Rattle.addresses.proofs.BaseCheckLaws.{valid-same, valid-number, no-number-zero}
 use Rattle.rules.{specs.declared.IgvmRelocatableRegion.IgvmRelocatableRegion, specs.Relocations.{regionAt, relocationBaseValid, relocationBaseCheck}, proofs.FaultLaws.{refuse-none, else-none}}
 use Rattle.answers.specs.{Verdict.verdictRefusal, Relocations.{sheetInitializations, maskFault, regionFault, checkRefusal, testRegion, checkOf, answerFor, answerOf, baseNumber, baseCheckOf}}
-use Rattle.answers.proofs.AnswerLaws.{regionsOf, region-there}
+use Rattle.answers.proofs.AnswerLaws.{region-there, check-says}
 
 -- ---- of one region
 
@@ -28,14 +28,6 @@ module _ (l : Limits) (s : List ℕ) (given region base : ℕ) where
       go false none = refl
       go false (some r) = region-valid base r
 
-  -- a check that is not refused names a region
-  there : isRefusal (checkRefusal l s given region) ≡ false → region < regionsOf s given
-  unfolding checkRefusal regionFault
-  there f =
-      let (_, own) = else-none (verdictRefusal l s) _ .0 f in
-      let (_, w) = else-none (inRow 0 (maskFault given)) _ .0 own in
-      ltb-true region (regionsOf s given) (not-false (ltb region (regionsOf s given)) (refuse-none _ 35 0 noFault .0 (rw row-refusal at w) .0))
-
   -- the number is 0 exactly in a refusal
   pub zero-refused : eqb (baseCheckOf l s given region base .answer) 0 ≡ isRefusal (baseCheckOf l s given region base .refusal)
   unfolding answerOf
@@ -47,5 +39,5 @@ module _ (l : Limits) (s : List ℕ) (given region base : ℕ) where
     where
       go : (o : Option IgvmRelocatableRegion) → regionAt (sheetInitializations s) given region ≡ o → isRefusal (checkRefusal l s given region) ≡ false
           → eqb (answerFor (baseNumber base) o) 0 ≡ false
-      go none q e = absurd (region-there s given region (there e) q)
+      go none q e = absurd (region-there s given region (check-says l s given region e .2) q)
       go (some r) q e = no-number-zero (relocationBaseCheck r base)

@@ -2,3 +2,4 @@ pub mod Verdict
 pub mod Relocations
 pub mod Numbers
 pub mod Region
+pub mod BaseRanges
