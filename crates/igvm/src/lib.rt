@@ -6,6 +6,7 @@ ghost use Rattle.lent.specs.Lent.{numbersPut};
 ghost use Rattle.sheet.specs.Head.{limits};
 ghost use Rattle.answers.specs.Verdict.{verdictOf};
 ghost use Rattle.answers.specs.Relocations.{relocationsOf, wordsAfter, baseCheckOf, containsOf};
+ghost use Rattle.answers.specs.BaseRanges.{baseRangeOf};
 ghost use Rattle.answers.specs.Region.{regionBaseCheckOf, regionContainsOf};
 ghost use Rattle.answers.specs.Numbers.{numberOf, verdictNumbers, relocationNumbers, answerNumbers, checkNumbers};
 
@@ -110,6 +111,60 @@ pub extern "C" fn igvm_relocation_base_valid_numbers(
     ensures { λ _. ⌜ now (numbers .exit) ≡ numbersPut (answerNumbers (baseCheckOf limits (now (sheet .entry)) mask region base)) (now (numbers .entry)) ⌝ }
 {
     base_check(sheet, mask, region, base, 0, numbers)
+}
+
+// ---- a base known only as a range: 0 number, 1 row, 2 detail, 3 the answer: 1 always, 2 never, 3 sometimes
+
+fn base_range(
+    sheet: &[u8],
+    mask: u32,
+    region: u64,
+    lowest: u64,
+    highest: u64,
+    which: u32,
+    lent: &mut [u8],
+) -> u64
+    ensures { λ r. ⌜ r ≡ numberOf which (answerNumbers (baseRangeOf limits (now (sheet .entry)) mask region lowest highest)) ⌝ }
+    ensures { λ _. ⌜ now (lent .exit) ≡ numbersPut (answerNumbers (baseRangeOf limits (now (sheet .entry)) mask region lowest highest)) (now (lent .entry)) ⌝ }
+{
+    let found = numbers::answer_numbers(relocations::relocation_base_range(
+        sheet,
+        mask,
+        region,
+        lowest,
+        highest,
+    ));
+    numbers::tell(&found, which, lent)
+}
+
+#[no_mangle]
+pub extern "C" fn igvm_relocation_base_range(
+    sheet: &[u8],
+    mask: u32,
+    region: u64,
+    lowest: u64,
+    highest: u64,
+    which: u32,
+) -> u64
+    ensures { λ r. ⌜ r ≡ numberOf which (answerNumbers (baseRangeOf limits (now (sheet .entry)) mask region lowest highest)) ⌝ }
+{
+    let mut none: [u8; 0] = [];
+    base_range(sheet, mask, region, lowest, highest, which, &mut none)
+}
+
+#[no_mangle]
+pub extern "C" fn igvm_relocation_base_range_numbers(
+    sheet: &[u8],
+    mask: u32,
+    region: u64,
+    lowest: u64,
+    highest: u64,
+    numbers: &mut [u8],
+) -> u64
+    ensures { λ r. ⌜ r ≡ numberOf 0 (answerNumbers (baseRangeOf limits (now (sheet .entry)) mask region lowest highest)) ⌝ }
+    ensures { λ _. ⌜ now (numbers .exit) ≡ numbersPut (answerNumbers (baseRangeOf limits (now (sheet .entry)) mask region lowest highest)) (now (numbers .entry)) ⌝ }
+{
+    base_range(sheet, mask, region, lowest, highest, 0, numbers)
 }
 
 // ---- the address check: 0 number, 1 row, 2 detail, 3 contained (1 or 0)

@@ -1,11 +1,11 @@
 -- What the calls answer where one of their refusals applies, and where none does.
-use Rattle.rows.{proofs.Kit.{inl, inr, _≡_, refl, ap, sym, _∙_, Bool, true, false, true≢false, false≢true, _&&_, List, Option, none, some, ℕ, zero, suc, _*_, _/_, _≤_, _<_, arith, ltb, length}, proofs.Bools.{which, or-false-parts, ltb-same}}
+use Rattle.rows.{proofs.Kit.{inl, inr, _≡_, refl, ap, sym, _∙_, Bool, true, false, true≢false, false≢true, cond, _&&_, List, Option, none, some, ℕ, zero, suc, _*_, _/_, _≤_, _<_, arith, ltb, length}, proofs.Bools.{which, or-false-parts, ltb-same}}
 use Rattle.igvm_defs.{specs.declared.Refusal.Refusal, specs.Refusals.{noRefusal, isRefusal, inRow, orElse}, proofs.RefusalLaws.{orElse-first, orElse-later, else-refusal, row-refusal, no-fault-row}}
 use Rattle.lent.{specs.Lent.rowsPut, proofs.LentLaws.rows-none}
 use Rattle.sheet.{specs.Head.{Limits, limits, headOf}, specs.Read.Readable, proofs.Readable.readable-bounds}
 use Rattle.sheet_headers.specs.Headers.{sheetHeaders}
 use Rattle.rules.{specs.Relocations.{regionAt, pageTableAt}, specs.declared.IgvmRelocatableRegion.IgvmRelocatableRegion, specs.declared.PageTableRegion.PageTableRegion}
-use Rattle.answers.{proofs.AnswerLaws.{regionsOf, accepted-readable, list-says, found-count}, specs.declared.Answered.Answered, specs.declared.Checked.Checked, specs.Verdict.verdictRefusal, specs.Relocations.{sheetInitializations, maskFault, wordsFault, relocationsRefusal, foundOf, relocationsOf, regionWords, wordsAfter, regionFault, checkRefusal, testRegion, checkOf, answerFor, answerOf}}
+use Rattle.answers.{proofs.AnswerLaws.{regionsOf, accepted-readable, list-says, found-count}, specs.declared.Answered.Answered, specs.declared.Checked.Checked, specs.Verdict.verdictRefusal, specs.Relocations.{sheetInitializations, maskFault, wordsFault, relocationsRefusal, foundOf, relocationsOf, regionWords, wordsAfter, regionFault, checkRefusal, testRegion, checkOf, answerFor}, specs.BaseRanges.{rangeFault, rangeRefusal}}
 use Rattle.initialization_check.specs.declared.RelocRegions.{RelocRegions}
 use Rattle.keep.specs.Kept.{Kept}
 use Rattle.regions.{specs.declared.FoundRegion.FoundRegion, specs.declared.FoundTable.FoundTable, specs.Found.{foundRegion, foundTable}}
@@ -136,21 +136,34 @@ module _ (l : Limits) (s : List ℕ) (given : ℕ) where
   unfolding checkOf
   check-holds p region r h e = rw (h, e) (ap (checked (checkRefusal l s given region)) (found-test p (regionAt (sheetInitializations s) given region)))
 
-  -- ---- a named answer of one region
+  -- ---- 50, after the refusals of a check
 
-  pub answer-refused : (f : IgvmRelocatableRegion → ℕ) (region : ℕ) → isRefusal (checkRefusal l s given region) ≡ true
-      → answered (checkRefusal l s given region) 0 ≡ answerOf f l s given region
-  unfolding answerOf
-  answer-refused f region h = rw h
+  pub range-stops : (region lowest highest : ℕ) → isRefusal (checkRefusal l s given region) ≡ true
+      → checkRefusal l s given region ≡ rangeRefusal l s given region lowest highest
+  unfolding rangeRefusal
+  range-stops region lowest highest h = sym (orElse-first _ _ h)
 
-  pub answer-none : (f : IgvmRelocatableRegion → ℕ) (region : ℕ) (r : FoundRegion) → isRefusal (checkRefusal l s given region) ≡ false
-      → r ≡ foundRegion (regionAt (sheetInitializations s) given region) → r .found ≡ false
-      → answered (checkRefusal l s given region) 0 ≡ answerOf f l s given region
-  unfolding answerOf
-  answer-none f region r h e n = rw (h, none-found f (regionAt (sheetInitializations s) given region) (rw e at n))
+  pub range-decides : (region lowest highest : ℕ) → isRefusal (checkRefusal l s given region) ≡ false
+      → inRow 0 (rangeFault lowest highest) ≡ rangeRefusal l s given region lowest highest
+  unfolding rangeRefusal
+  range-decides region lowest highest h = sym (orElse-later _ _ h)
 
-  pub answer-given : (f : IgvmRelocatableRegion → ℕ) (region : ℕ) (r : FoundRegion) → isRefusal (checkRefusal l s given region) ≡ false
-      → r ≡ foundRegion (regionAt (sheetInitializations s) given region) → r .found ≡ true
-      → answered (checkRefusal l s given region) (f (r .region)) ≡ answerOf f l s given region
-  unfolding answerOf
-  answer-given f region r h e n = rw (h, found-answers f (regionAt (sheetInitializations s) given region) (rw e at n), e)
+  pub range-readable : (region lowest highest : ℕ) → isRefusal (rangeRefusal l s given region lowest highest) ≡ false → Readable l s
+  unfolding rangeRefusal
+  range-readable region lowest highest h = check-readable region (or-false-parts (isRefusal (checkRefusal l s given region)) _ (rw else-refusal at h) .0)
+
+-- ---- a named answer of one region, 0 where the call is refused
+
+module _ (s : List ℕ) (given region : ℕ) (refusal : Refusal) (f : IgvmRelocatableRegion → ℕ) where
+  abbrev answerUnless : Answered
+  answerUnless = answered refusal (cond (isRefusal refusal) 0 (answerFor f (regionAt (sheetInitializations s) given region)))
+
+  pub answer-refused : isRefusal refusal ≡ true → answered refusal 0 ≡ answerUnless
+  answer-refused h = rw h
+
+  module _ (r : FoundRegion) (h : isRefusal refusal ≡ false) (e : r ≡ foundRegion (regionAt (sheetInitializations s) given region)) where
+    pub answer-none : r .found ≡ false → answered refusal 0 ≡ answerUnless
+    answer-none n = rw (h, none-found f (regionAt (sheetInitializations s) given region) (rw e at n))
+
+    pub answer-given : r .found ≡ true → answered refusal (f (r .region)) ≡ answerUnless
+    answer-given n = rw (h, found-answers f (regionAt (sheetInitializations s) given region) (rw e at n), e)

@@ -9,6 +9,7 @@ ghost use Rattle.sheet.specs.Head.{initializationRows, limits, headOf, startFau
 ghost use Rattle.rules.specs.Relocations.{regionCount};
 ghost use Rattle.relocations.specs.Query.{queryRefusal};
 ghost use Rattle.answers.specs.Relocations.{sheetInitializations, foundOf, relocationsRefusal, relocationsOf, wordsAfter, checkRefusal, baseCheckOf, containsOf};
+ghost use Rattle.answers.specs.BaseRanges.{rangeRefusal, baseRangeOf};
 use answers::Answered;
 use answers::Checked;
 use answers::Relocations;
@@ -228,6 +229,50 @@ pub fn relocation_base_valid(s: &[u8], given: u32, region: u64, base: u64) -> An
     Answered {
         refusal,
         answer: check.number(),
+    }
+}
+
+// The verdict's refusal, 35, 36 or 50.
+fn range_refusal(s: &[u8], given: u32, region: u64, lowest: u64, highest: u64) -> Refusal
+    ensures { λ r. ⌜ r ≡ rangeRefusal limits (now (s .entry)) given region lowest highest ⌝ }
+{
+    let refusal = check_refusal(s, given, region);
+    if refusal.is_refusal() {
+        return refusal;
+    }
+    igvm_defs::refuse(highest < lowest, 50, 0, Fault::NONE).in_row(0)
+}
+
+// Whether region `region` of the mask may be moved to every base of the range, to none, or to some.
+pub fn relocation_base_range(
+    s: &[u8],
+    given: u32,
+    region: u64,
+    lowest: u64,
+    highest: u64,
+) -> Answered
+    ensures { λ r. ⌜ r ≡ baseRangeOf limits (now (s .entry)) given region lowest highest ⌝ }
+{
+    let refusal = range_refusal(s, given, region, lowest, highest);
+    if refusal.is_refusal() {
+        return Answered { refusal, answer: 0 };
+    }
+    let r = regions::region_at(s, SheetHead::new(s), given, region);
+    if !r.found {
+        return Answered { refusal, answer: 0 };
+    }
+    let q = r.region;
+    let range = base_ranges::base_range(
+        q.relocation_alignment,
+        q.size,
+        q.minimum_relocation_gpa,
+        q.maximum_relocation_gpa,
+        lowest,
+        highest,
+    );
+    Answered {
+        refusal,
+        answer: range.number(),
     }
 }
 

@@ -1,7 +1,7 @@
 use Rattle.rows.proofs.Kit.{_≡_, sym, _∙_, true, false, not-true, not-false, now, needs}
 use Rattle.igvm_defs.specs.Refusals.{isRefusal}
 use Rattle.sheet.{specs.Head.limits, proofs.Readable.readable-bounds, specs.Read.Readable}
-use Rattle.answers.specs.Relocations.{checkRefusal, baseNumber}
+use Rattle.answers.specs.Relocations.{checkRefusal, answerOf, baseNumber}
 use Rattle.relocations.proofs.{CallLaws.{check-readable, answer-refused, answer-none, answer-given}, relocation_base_valid.Statement.statement}
 use Rattle.relocations.proofs.relocation_base_valid.Tie as tie
 
@@ -13,25 +13,28 @@ passed : (c : tie.Else1) → Readable limits (now (c .before .before .before .be
 passed c = check-readable limits _ _ _ (not-refused c)
 
 returns : tie.Need-returns
+unfolding answerOf
 returns c =
     let e = c .before .before .check-refusal .ensures in
     let a = c .before .before .before .before .args in
-    rw e (answer-refused limits (now (a .s)) (a .given) _ (a .region) (rw e at (sym (c .before .is-refusal .ensures) ∙ c .if1 .taken)))
+    rw e (answer-refused (now (a .s)) (a .given) (a .region) _ (baseNumber (a .base)) (rw e at (sym (c .before .is-refusal .ensures) ∙ c .if1 .taken)))
 
 returns-2 : tie.Need-returns-2
+unfolding answerOf
 returns-2 c =
     let d = c .before .before .before .before in
     let a = d .before .before .before .before .args in
     rw (d .before .before .check-refusal .ensures)
-    (answer-none limits (now (a .s)) (a .given) (baseNumber (a .base)) (a .region) _ (not-refused d) (c .before .before .region-at .ensures) (not-true _ (c .if2 .taken)))
+    (answer-none (now (a .s)) (a .given) (a .region) _ (baseNumber (a .base)) _ (not-refused d) (c .before .before .region-at .ensures) (not-true _ (c .if2 .taken)))
 
 returns-3 : tie.Need-returns-3
+unfolding answerOf
 returns-3 c =
     let e = c .before .before .before in
     let d = e .before .before .before .before in
     let a = d .before .before .before .before .args in
     rw (c .number .ensures, c .before .base-check .ensures, d .before .before .check-refusal .ensures)
-    (answer-given limits (now (a .s)) (a .given) (baseNumber (a .base)) (a .region) _ (not-refused d) (e .before .before .region-at .ensures) (not-false _ (e .if2 .left)))
+    (answer-given (now (a .s)) (a .given) (a .region) _ (baseNumber (a .base)) _ (not-refused d) (e .before .before .region-at .ensures) (not-false _ (e .if2 .left)))
 
 pub relocation-base-valid-spec : {M : Type 1} → statement M
 relocation-base-valid-spec =
