@@ -5,7 +5,7 @@ use Rattle.igvm_defs.{specs.declared.Refusal.Refusal, specs.Refusals.isRefusal,
 use Rattle.lent.proofs.LentLaws.{same-words}
 use Rattle.sheet.specs.Head.{Limits}
 use Rattle.rules.{specs.declared.IgvmRelocatableRegion.IgvmRelocatableRegion, specs.declared.PageTableRegion.PageTableRegion, specs.Relocations.{regionAt, pageTableAt}}
-use Rattle.answers.{proofs.AnswerLaws.{regionsOf, list-says, found-count}, specs.Verdict.verdictRefusal, specs.Relocations.{sheetInitializations, wordsFault, relocationsRefusal, foundOf, relocationsOf, regionWords, wordsAfter, regionFault, checkRefusal, answerOf}}
+use Rattle.answers.{proofs.AnswerLaws.{regionsOf, list-says, found-count}, specs.Verdict.verdictRefusal, specs.Relocations.{sheetInitializations, wordsFault, relocationsRefusal, foundOf, relocationsOf, regionWords, wordsAfter, regionFault, checkRefusal, answerOf}, specs.BaseRanges.{rangeRefusal, baseRangeOf}}
 use Rattle.order.specs.Demand.{Accepted}
 
 -- ---- the region list
@@ -54,10 +54,19 @@ module _ (l : Limits) (a b : List ℕ) (va : Accepted l a) (vb : Accepted l b) (
       rw (list-count l a given (length x) fa, list-count l b given (length y) fb)
       (same-words (regionsOf a given) (regionsOf b given) _ _ x y (omega arith) (omega arith) n m k ln lm lk (ap regionWords e))
 
-  -- ---- checks on one region
-  pub answer-same : (f : IgvmRelocatableRegion → ℕ) (n m : ℕ) → n < regionsOf a given → m < regionsOf b given
-      → regionAt (sheetInitializations a) given n ≡ regionAt (sheetInitializations b) given m → answerOf f l a given n ≡ answerOf f l b given m
-  unfolding answerOf checkRefusal regionFault
-  answer-same f n m ln lm e =
-      rw (orElse-later (verdictRefusal l a) _ va, orElse-later (verdictRefusal l b) _ vb)
-      (rw (lt-ltb n (regionsOf a given) ln, lt-ltb m (regionsOf b given) lm, e))
+  -- ---- checks on one region, which is the same, by its numbers n and m
+  module _ (n m : ℕ) (ln : n < regionsOf a given) (lm : m < regionsOf b given)
+      (e : regionAt (sheetInitializations a) given n ≡ regionAt (sheetInitializations b) given m) where
+    check-refusal-same : checkRefusal l a given n ≡ checkRefusal l b given m
+    unfolding checkRefusal regionFault
+    check-refusal-same =
+        rw (orElse-later (verdictRefusal l a) _ va, orElse-later (verdictRefusal l b) _ vb)
+        (rw (lt-ltb n (regionsOf a given) ln, lt-ltb m (regionsOf b given) lm))
+
+    pub answer-same : (f : IgvmRelocatableRegion → ℕ) → answerOf f l a given n ≡ answerOf f l b given m
+    unfolding answerOf
+    answer-same f = rw (check-refusal-same, e)
+
+    pub range-same : (lowest highest : ℕ) → baseRangeOf l a given n lowest highest ≡ baseRangeOf l b given m lowest highest
+    unfolding baseRangeOf rangeRefusal
+    range-same lowest highest = rw (check-refusal-same, e)

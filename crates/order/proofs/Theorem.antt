@@ -3,9 +3,9 @@ use Rattle.rows.proofs.Kit.{_≡_, sym, List, ℕ, _<_}
 use Rattle.sheet.{specs.Head.{Limits, headOf}, specs.Read.{Readable, sheetRefusal}, proofs.Readable.sheet-says}
 use Rattle.sheet_headers.specs.Headers.{sheetHeaders}
 use Rattle.rules.{specs.Accepted.NotRefused, specs.Relocations.regionAt, proofs.FaultLaws.else-none, proofs.Order.same-answers, proofs.QueryLaws.number-below, proofs.SoundLaws.accepted-sound}
-use Rattle.answers.{proofs.AnswerLaws.regionsOf, specs.Verdict.verdictRefusal, specs.Relocations.sheetInitializations}
-use Rattle.order.specs.{Reordered.Reordered, Demand.{Accepted, IsRegion, numberIn, SameAnswers}}
-use Rattle.order.proofs.{ReadableToo.{heads, readable-too}, Lists.{paired-in, headers-reordered}, Answers.{list-same, words-same, answer-same}}
+use Rattle.answers.{proofs.AnswerLaws.regionsOf, specs.Verdict.verdictRefusal, specs.Relocations.{sheetInitializations, baseNumber}}
+use Rattle.order.specs.{Reordered.Reordered, Demand.{Accepted, IsRegion, numberIn, SameAnswers}, Ranges.SameRanges}
+use Rattle.order.proofs.{ReadableToo.{heads, readable-too}, Lists.{paired-in, headers-reordered}, Answers.{list-same, words-same, answer-same, range-same}}
 use Rattle.rules.specs.Reordered as rules
 
 -- the headers of an accepted sheet meet none of 8 to 34
@@ -25,38 +25,45 @@ accepted-there l a b ok e f v =
 number-in : (s : List ℕ) (given i : ℕ) → IsRegion s given i → numberIn s given i < regionsOf s given
 number-in s given i r = number-below (sheetInitializations s) given i (r .below) (r .relocatable)
 
--- DEMAND 3
-pub demand-3 : (l : Limits) (a b : List ℕ) → Readable l a → (R : Reordered a b) → SameAnswers l a b R
-unfolding paired-in headers-reordered
-demand-3 l a b ok R =
-    record {
-      readable = readable-too l ok R;
-      accepted = (there, back);
-      region = region;
-      relocations = λ v given bytes bytes' e.
-          list-same l a b v (there v) given (S .count given) (S .table (accepted-headers l a v) given) bytes bytes' e;
-      words = λ v given i r.
-          words-same l a b v (there v) given (S .count given) _ _ (number-in a given i r) (number-in b given _ (region given i r)) (found given i r);
-      base = λ v given i r base.
-          answer-same l a b v (there v) given (S .count given) _ _ _ (number-in a given i r) (number-in b given _ (region given i r)) (found given i r);
-      sound = λ v. (accepted-sound (sheetHeaders a) (accepted-headers l a v), accepted-sound (sheetHeaders b) (accepted-headers l b (there v)));
-    }
-  where
-    H : rules.Reordered (sheetHeaders a) (sheetHeaders b)
-    H = headers-reordered l ok R
+module _ (l : Limits) (a b : List ℕ) (ok : Readable l a) (R : Reordered a b) where
+  H : rules.Reordered (sheetHeaders a) (sheetHeaders b)
+  H = headers-reordered l ok R
 
-    S : rules.SameAnswers (sheetHeaders a) (sheetHeaders b) H
-    S = same-answers (sheetHeaders a) (sheetHeaders b) H
+  S : rules.SameAnswers (sheetHeaders a) (sheetHeaders b) H
+  S = same-answers (sheetHeaders a) (sheetHeaders b) H
 
-    there : Accepted l a → Accepted l b
-    there = accepted-there l a b (readable-too l ok R) (heads R) (S .accepted .0)
+  there : Accepted l a → Accepted l b
+  there = accepted-there l a b (readable-too l ok R) (heads R) (S .accepted .0)
 
-    back : Accepted l b → Accepted l a
-    back = accepted-there l b a ok (sym (heads R)) (S .accepted .1)
+  back : Accepted l b → Accepted l a
+  back = accepted-there l b a ok (sym (heads R)) (S .accepted .1)
 
-    region : (given i : ℕ) → IsRegion a given i → IsRegion b given (R .initializations .to i)
-    region given i r = record { below = H .initializations .to-below i (r .below); relocatable = rw (H .initializations .same i (r .below)) (r .relocatable) }
+  region : (given i : ℕ) → IsRegion a given i → IsRegion b given (R .initializations .to i)
+  unfolding paired-in headers-reordered H
+  region given i r = record { below = H .initializations .to-below i (r .below); relocatable = rw (H .initializations .same i (r .below)) (r .relocatable) }
 
-    found : (given i : ℕ) → IsRegion a given i
-        → regionAt (sheetInitializations a) given (numberIn a given i) ≡ regionAt (sheetInitializations b) given (numberIn b given (R .initializations .to i))
-    found given i r = S .region given i (r .below) (r .relocatable)
+  found : (given i : ℕ) → IsRegion a given i
+      → regionAt (sheetInitializations a) given (numberIn a given i) ≡ regionAt (sheetInitializations b) given (numberIn b given (R .initializations .to i))
+  unfolding paired-in headers-reordered H S
+  found given i r = S .region given i (r .below) (r .relocatable)
+
+  -- DEMAND 3
+  pub demand-3 : SameAnswers l a b R
+  demand-3 =
+      record {
+        readable = readable-too l ok R;
+        accepted = (there, back);
+        region = region;
+        relocations = λ v given bytes bytes' e.
+            list-same l a b v (there v) given (S .count given) (S .table (accepted-headers l a v) given) bytes bytes' e;
+        words = λ v given i r.
+            words-same l a b v (there v) given (S .count given) _ _ (number-in a given i r) (number-in b given _ (region given i r)) (found given i r);
+        base = λ v given i r base.
+            answer-same l a b v (there v) given (S .count given) _ _ (number-in a given i r) (number-in b given _ (region given i r)) (found given i r) (baseNumber base);
+        sound = λ v. (accepted-sound (sheetHeaders a) (accepted-headers l a v), accepted-sound (sheetHeaders b) (accepted-headers l b (there v)));
+      }
+
+  -- and ranges of bases beside it
+  pub same-ranges : SameRanges l a b R
+  same-ranges v given i r lowest highest =
+      range-same l a b v (there v) given (S .count given) _ _ (number-in a given i r) (number-in b given _ (region given i r)) (found given i r) lowest highest

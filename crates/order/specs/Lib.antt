@@ -1,4 +1,5 @@
 pub mod Reordered
 pub mod Demand
+pub mod Ranges
 pub mod Sheets
 pub mod Weakened
