@@ -13,6 +13,7 @@ fn ask(c: Call, sheet: &[u8], lent: &mut [u8], which: u32) -> u64 {
         2 => igvm::igvm_relocation_base_valid(sheet, c.mask, c.region, c.value, which),
         4 => igvm::igvm_region_base_valid(sheet, c.value),
         5 => igvm::igvm_region_contains(sheet, c.value),
+        6 => igvm::igvm_relocation_base_range(sheet, c.mask, c.region, c.value, c.highest, which),
         _ => igvm::igvm_contains(sheet, c.mask, c.region, c.value, which),
     }
 }
@@ -25,6 +26,14 @@ fn ask_all(c: Call, sheet: &[u8], words: &mut [u8], numbers: &mut [u8]) -> u64 {
         0 => igvm::igvm_verdict_numbers(sheet, numbers),
         1 => igvm::igvm_relocations_numbers(sheet, c.mask, words, numbers),
         2 => igvm::igvm_relocation_base_valid_numbers(sheet, c.mask, c.region, c.value, numbers),
+        6 => igvm::igvm_relocation_base_range_numbers(
+            sheet,
+            c.mask,
+            c.region,
+            c.value,
+            c.highest,
+            numbers,
+        ),
         _ => igvm::igvm_contains_numbers(sheet, c.mask, c.region, c.value, numbers),
     }
 }
@@ -155,19 +164,19 @@ fn write_answer(c: Call, sheet: &[u8], lent: &mut [u8])
 }
 
 fn replay_record(one: &[u8])
-    requires { ⌜ 32 ≤ length (now one) ⌝ }
+    requires { ⌜ 40 ≤ length (now one) ⌝ }
 {
     let mut space = [0u8; 4224];
     let c = stored_calls::start(one, &mut space);
     let n = c.lent;
-    write_answer(c, &one[32..], &mut space[..n]);
+    write_answer(c, &one[40..], &mut space[..n]);
 }
 
 fn replay(s: &[u8]) {
     let mut at = 0;
     while at < s.len() {
         let n = stored_calls::record_length(s, at);
-        if n < 32 {
+        if n < 40 {
             return;
         }
         let end = at + n;

@@ -1,4 +1,4 @@
-// Calls that a file stores, one record after another: a record is read, and its line written up to the numbers of the answer. A record is a head of 32 bytes and a sheet
+// Calls that a file stores, one record after another: a record is read, and its line written up to the numbers of the answer. A record is a head of 40 bytes and a sheet
 // (codes 4 and 5: a region's bytes).
 ghost use mathlib.Core.Path.{_≡_};
 ghost use Prim.Native.Nat.{ℕ, _+_, _*_, _%_, _<_, _≤_};
@@ -8,14 +8,16 @@ use libc::STDOUT_FILENO;
 
 // The head of a record.
 pub struct Call {
-    // 0 verdict, 1 relocations, 2 relocation_base_valid, 4 region_base_valid, 5 region_contains, else contains
+    // 0 verdict, 1 relocations, 2 relocation_base_valid, 4 region_base_valid, 5 region_contains, 6 relocation_base_range, else contains
     pub code: u8,
     // 0 document 01, 1 the Rust, 2 the Rust that a base is not valid and document 02 why, else document 02
     pub answered: u8,
     pub mask: u32,
     pub region: u64,
-    // base or gpa
+    // base, gpa or lowest base
     pub value: u64,
+    // highest base
+    pub highest: u64,
     // how many bytes are lent
     pub lent: usize,
     // how many numbers are asked for: those of the answer, and one past them where the call takes `which`
@@ -29,6 +31,7 @@ const NO_CALL: Call = Call {
     mask: 0,
     region: 0,
     value: 0,
+    highest: 0,
     lent: 0,
     numbers: 0,
 };
@@ -71,6 +74,10 @@ fn write_call(c: Call) {
         2 => write_region(b"relocation_base_valid", c, b" base "),
         4 => write_number(b"region_base_valid base ", c.value),
         5 => write_number(b"region_contains gpa ", c.value),
+        6 => {
+            write_region(b"relocation_base_range", c, b" lowest ");
+            write_number(b" highest ", c.highest);
+        }
         _ => write_region(b"contains", c, b" gpa "),
     }
 }
@@ -97,7 +104,7 @@ fn numbers(code: u8) -> u32
 }
 
 fn call_of(one: &[u8]) -> Call
-    requires { ⌜ 32 ≤ length (now one) ⌝ }
+    requires { ⌜ 40 ≤ length (now one) ⌝ }
     ensures { λ r. ⌜ r .numbers ≤ 11 ⌝ }
 {
     let code = one[0];
@@ -107,14 +114,15 @@ fn call_of(one: &[u8]) -> Call
         mask: le::u32_at(one, 4),
         region: le::u64_at(one, 8),
         value: le::u64_at(one, 16),
-        lent: le::u32_at(one, 24) as usize,
+        highest: le::u64_at(one, 24),
+        lent: le::u32_at(one, 32) as usize,
         numbers: numbers(code),
     }
 }
 
 // The call of a record, and the line up to its numbers. The first bytes of `space` are what it lends.
 pub fn start(one: &[u8], space: &mut [u8]) -> Call
-    requires { ⌜ 32 ≤ length (now one) ⌝ }
+    requires { ⌜ 40 ≤ length (now one) ⌝ }
     ensures { λ r. ⌜ Counts (r .lent) (now (space .exit)) ⌝ }
     ensures { λ r. ⌜ r .numbers ≤ 11 ⌝ }
 {
@@ -136,10 +144,10 @@ pub fn record_length(s: &[u8], at: usize) -> usize
     ensures { λ r. ⌜ at + r ≤ length (now (s .entry)) ⌝ }
 {
     let left = s.len() - at;
-    if 32 <= left {
-        let sheet = le::u32_at(s, at + 28) as usize;
-        if sheet <= left - 32 {
-            return 32 + sheet;
+    if 40 <= left {
+        let sheet = le::u32_at(s, at + 36) as usize;
+        if sheet <= left - 40 {
+            return 40 + sheet;
         }
     }
     write(b"a record that is not whole\n");

@@ -1,4 +1,4 @@
--- `replay` is safe and ends: each turn passes a record of 32 bytes or more.
+-- `replay` is safe and ends: each turn passes a record of 40 bytes or more.
 use Rattle.rows.proofs.Kit.{_-_, _≤_, length, needs}
 use Rattle.replay.proofs.replay.Statement.{statement}
 use Rattle.replay.proofs.replay.Tie as tie
