@@ -24,7 +24,7 @@ extern "C" {
 #endif
 
 /* The library's version; docs/CHANGELOG.md of the repository says what changed. */
-enum { IGVM_VERSION_MAJOR = 0, IGVM_VERSION_MINOR = 4, IGVM_VERSION_PATCH = 0 };
+enum { IGVM_VERSION_MAJOR = 0, IGVM_VERSION_MINOR = 5, IGVM_VERSION_PATCH = 0 };
 
 /* Limits: a sheet with more rows in a list, or with more bytes, is refused by IGVM_ERROR_LIMIT_EXCEEDED.
  *
@@ -42,7 +42,7 @@ enum {
 /* Numbers that every answer has. */
 enum { IGVM_NUMBER = 0, IGVM_ROW = 1, IGVM_DETAIL = 2 };
 
-/* Refusals, by number. A later library may give more. */
+/* Refusals, by number: 1 to 37, and 50. A later library may give more. */
 enum {
     IGVM_ACCEPTED = 0,
     IGVM_ERROR_SHEET_ENDS_EARLY = 1,
@@ -81,7 +81,8 @@ enum {
     IGVM_ERROR_NO_MATCHING_VP_CONTEXT = 34,
     IGVM_ERROR_QUERY_MASK_ZERO = 35,
     IGVM_ERROR_NO_SUCH_REGION = 36,
-    IGVM_ERROR_TOO_FEW_WORDS_LENT = 37
+    IGVM_ERROR_TOO_FEW_WORDS_LENT = 37,
+    IGVM_ERROR_LOWEST_ABOVE_HIGHEST = 50
 };
 
 /* Whether the sheet is accepted. 3 platform rows, 4 initialization rows, 5 directive rows. */
@@ -118,13 +119,28 @@ enum { IGVM_BASE_VALID = 1, IGVM_BASE_UNALIGNED = 2, IGVM_BASE_BELOW_MINIMUM = 3
 uint64_t igvm_relocation_base_valid(const uint8_t *sheet, size_t sheet_len, uint32_t mask, uint64_t region, uint64_t base, uint32_t which);
 uint64_t igvm_relocation_base_valid_numbers(const uint8_t *sheet, size_t sheet_len, uint32_t mask, uint64_t region, uint64_t base, uint8_t *numbers, size_t numbers_len);
 
+/* Whether the mask's region of this number may be moved to the bases of a range, where its base is not yet known. The range goes from lowest to highest, ends included.
+ * Of its bases the multiples of the region's alignment count, and no others; the ends need not be multiples. Number 3 is one of these:
+ *
+ *   1 IGVM_RANGE_ALWAYS     there is a multiple in the range, and all are valid: of each the base check says IGVM_BASE_VALID
+ *   2 IGVM_RANGE_NEVER      none is valid; so it is too where there is no multiple in the range
+ *   3 IGVM_RANGE_SOMETIMES  some are valid, and some are not
+ *
+ * Of a range of one base that is IGVM_RANGE_ALWAYS exactly where the base check says IGVM_BASE_VALID, else IGVM_RANGE_NEVER. A lowest above the highest is refused by
+ * IGVM_ERROR_LOWEST_ABOVE_HIGHEST, after IGVM_ERROR_NO_SUCH_REGION. A number other than 0 is no yes: compare it with IGVM_RANGE_ALWAYS. 0 stands in a refusal alone.
+ * An answer has IGVM_CHECK_NUMBERS. Before 0.5.0 there was no such call. */
+enum { IGVM_BASE_RANGE = 3 };
+enum { IGVM_RANGE_ALWAYS = 1, IGVM_RANGE_NEVER = 2, IGVM_RANGE_SOMETIMES = 3 };
+uint64_t igvm_relocation_base_range(const uint8_t *sheet, size_t sheet_len, uint32_t mask, uint64_t region, uint64_t lowest, uint64_t highest, uint32_t which);
+uint64_t igvm_relocation_base_range_numbers(const uint8_t *sheet, size_t sheet_len, uint32_t mask, uint64_t region, uint64_t lowest, uint64_t highest, uint8_t *numbers, size_t numbers_len);
+
 /* Whether the address lies in the mask's region of this number. 3 contained (1 or 0). */
 enum { IGVM_CONTAINED = 3 };
 uint64_t igvm_contains(const uint8_t *sheet, size_t sheet_len, uint32_t mask, uint64_t region, uint64_t gpa, uint32_t which);
 uint64_t igvm_contains_numbers(const uint8_t *sheet, size_t sheet_len, uint32_t mask, uint64_t region, uint64_t gpa, uint8_t *numbers, size_t numbers_len);
 
-/* The same two on a region's IGVM_REGION_BYTES, as igvm_relocations put them, without the sheet: each returns number 3. They answer as the calls on the sheet do; of
- * other bytes they say what those eight words give. In fewer bytes there is no region: 0.
+/* The checks of a base and of an address on a region's IGVM_REGION_BYTES, as igvm_relocations put them, without the sheet: each returns number 3. They answer as the
+ * calls on the sheet do; of other bytes they say what those eight words give. In fewer bytes there is no region: 0.
  *
  * Of a base that is 1 to 4: again a number other than 0 is no yes, and is to be compared with IGVM_BASE_VALID (before 0.4.0: 1 or 0). Of an address it is 1 or 0. */
 uint64_t igvm_region_base_valid(const uint8_t *region, size_t region_len, uint64_t base);

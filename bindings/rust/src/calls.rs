@@ -1,7 +1,7 @@
 //! The calls of the library, as safe functions. Each makes one call, which puts all numbers of the answer into bytes that are lent to it.
 
 use crate::headers::region_flags;
-use crate::{BaseCheck, Refusal, Vtl};
+use crate::{BaseCheck, BaseRange, Refusal, Vtl};
 
 /// `libigvm.a`, as include/igvm.h declares it: any bytes, any numbers.
 mod linked {
@@ -25,6 +25,16 @@ mod linked {
             numbers: *mut u8,
             numbers_len: usize,
         ) -> u64;
+        pub fn igvm_relocation_base_range_numbers(
+            sheet: *const u8,
+            sheet_len: usize,
+            mask: u32,
+            region: u64,
+            lowest: u64,
+            highest: u64,
+            numbers: *mut u8,
+            numbers_len: usize,
+        ) -> u64;
         pub fn igvm_contains_numbers(
             sheet: *const u8,
             sheet_len: usize,
@@ -44,6 +54,15 @@ mod linked {
         pub fn igvm_verdict(sheet: *const u8, sheet_len: usize, which: u32) -> u64;
         pub fn igvm_relocations(sheet: *const u8, sheet_len: usize, mask: u32, words: *mut u8, words_len: usize, which: u32) -> u64;
         pub fn igvm_relocation_base_valid(sheet: *const u8, sheet_len: usize, mask: u32, region: u64, base: u64, which: u32) -> u64;
+        pub fn igvm_relocation_base_range(
+            sheet: *const u8,
+            sheet_len: usize,
+            mask: u32,
+            region: u64,
+            lowest: u64,
+            highest: u64,
+            which: u32,
+        ) -> u64;
         pub fn igvm_contains(sheet: *const u8, sheet_len: usize, mask: u32, region: u64, gpa: u64, which: u32) -> u64;
     }
 }
@@ -72,6 +91,14 @@ fn relocation_base_valid_numbers(sheet: &[u8], mask: u32, region: u64, base: u64
     // SAFETY: the pointers and the lengths are those of two slices that share nothing; the sheet is only read.
     numbers(|lent| unsafe {
         linked::igvm_relocation_base_valid_numbers(sheet.as_ptr(), sheet.len(), mask, region, base, lent.as_mut_ptr(), lent.len())
+    })
+}
+
+fn relocation_base_range_numbers(sheet: &[u8], mask: u32, region: u64, lowest: u64, highest: u64) -> [u64; 4] {
+    let (start, length) = (sheet.as_ptr(), sheet.len());
+    // SAFETY: the pointers and the lengths are those of two slices that share nothing; the sheet is only read.
+    numbers(|lent| unsafe {
+        linked::igvm_relocation_base_range_numbers(start, length, mask, region, lowest, highest, lent.as_mut_ptr(), lent.len())
     })
 }
 
@@ -315,6 +342,25 @@ pub fn relocation_base_valid(sheet: &[u8], mask: u32, region: u64, base: u64) ->
     Ok(base_check(number))
 }
 
+/// Whether the mask's region of this number, from 0 in the order of [`Relocations::regions`], may be moved to the bases from the lowest to the highest, ends
+/// included: to all, to none, or to some of those that are multiples of its alignment. Others don't count, and where the range has no multiple, the answer is
+/// [`BaseRange::Never`]. It is what trying each multiple by [`relocation_base_valid`] gives; a range of one base is [`BaseRange::Always`] exactly where that is
+/// [`BaseCheck::Valid`], else [`BaseRange::Never`].
+///
+/// The sheet is judged anew by each such call. Crate igvm has no such function.
+///
+/// # Errors
+///
+/// As [`relocation_base_valid`] does, and then where the lowest is above the highest ([`LowestAboveHighest`](crate::Error::LowestAboveHighest)).
+///
+/// # Panics
+///
+/// The library linked is not the one of this crate's version.
+pub fn relocation_base_range(sheet: &[u8], mask: u32, region: u64, lowest: u64, highest: u64) -> Result<BaseRange, Refusal> {
+    let [.., number] = accepted(sheet, relocation_base_range_numbers(sheet, mask, region, lowest, highest))?;
+    Ok(BaseRange::from_number(number).expect(BROKEN))
+}
+
 /// Whether the gpa lies in the mask's region of this number.
 ///
 /// The sheet is judged anew by each such call. [`IgvmRelocatableRegion::contains`] says the same of a region that [`relocations`] gave.
@@ -398,12 +444,38 @@ mod tests {
     }
 
     #[test]
+    fn a_range_checks_numbers_are_those_of_the_calls_by_which() {
+        let ends = [0, 0xF_F001, 0x10_0000, 0x10_0FFF, 0x1F_E000, 0x20_1000, u64::MAX];
+        let mut last_numbers = BTreeSet::new();
+        for sheet in sheets() {
+            for (mask, region) in [(0, 0), (1, 0), (1, 1), (2, 0), (3, 0), (1, u64::MAX)] {
+                for (lowest, highest) in ends.into_iter().flat_map(|lowest| ends.map(|highest| (lowest, highest))) {
+                    let (start, length) = (sheet.as_ptr(), sheet.len());
+                    // SAFETY: the pointer and the length are those of a slice, which is only read.
+                    let range = one_by_one(|which| unsafe {
+                        linked::igvm_relocation_base_range(start, length, mask, region, lowest, highest, which)
+                    });
+                    assert_eq!(relocation_base_range_numbers(&sheet, mask, region, lowest, highest), range);
+                    assert_eq!(range[0] != 0, range[3] == 0, "0 is no answer, and stands in a refusal");
+                    last_numbers.insert(range[3]);
+                }
+            }
+        }
+        assert_eq!(last_numbers.into_iter().collect::<Vec<_>>(), [0, 1, 2, 3]);
+    }
+
+    #[test]
     fn no_number_is_put_where_one_has_no_room() {
         let sheet = [0; 16];
         let mut lent = [0xA5; 47];
         // SAFETY: the pointers and the lengths are those of two slices that share nothing; the sheet is only read.
         let number = unsafe { linked::igvm_verdict_numbers(sheet.as_ptr(), sheet.len(), lent.as_mut_ptr(), lent.len()) };
         assert_eq!((number, lent), (2, [0xA5; 47]));
+        let mut lent = [0xA5; 31];
+        // SAFETY: as above.
+        let number =
+            unsafe { linked::igvm_relocation_base_range_numbers(sheet.as_ptr(), sheet.len(), 1, 0, 0, 0, lent.as_mut_ptr(), lent.len()) };
+        assert_eq!((number, lent), (2, [0xA5; 31]));
     }
 
     #[test]

@@ -27,8 +27,8 @@ use Detail::{Decimal, Hexadecimal};
 
 macro_rules! errors {
     ($($number:literal $name:ident, $sentence:literal, $cure:literal, $detail:expr;)*) => {
-        /// What is wrong. The names are those of the errors of crate igvm 0.5.0 (`Error` and `BinaryHeaderError`), but for 1 to 6, 19, 27, 28 and 35 to 37,
-        /// which it does not have.
+        /// What is wrong. The names are those of the errors of crate igvm 0.5.0 (`Error` and `BinaryHeaderError`), but for 1 to 6, 19, 27, 28, 35 to 37
+        /// and 50, which it does not have. There is none of 38 to 49.
         #[derive(Debug, Clone, Copy, PartialEq, Eq, Hash)]
         #[non_exhaustive]
         pub enum Error {
@@ -62,7 +62,7 @@ macro_rules! errors {
                 }
             }
 
-            /// What an image's builder, or for 35 to 37 the caller, does about it, in one sentence.
+            /// What an image's builder, or for 35 to 37 and 50 the caller, does about it, in one sentence.
             pub fn cure(self) -> &'static str {
                 match self {
                     $(Error::$name => $cure,)*
@@ -162,6 +162,8 @@ errors! {
         "ask for a number below the mask's count of relocatable regions", Detail::None;
     37 TooFewWordsLent, "fewer bytes are lent than the regions take",
         "lend 64 bytes for each region; 4,096 are enough for any sheet", Detail::None;
+    50 LowestAboveHighest, "the range's lowest base is above its highest",
+        "give the lower of the two bases as the lowest, the higher as the highest", Detail::None;
 }
 
 impl fmt::Display for Error {

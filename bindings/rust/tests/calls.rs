@@ -158,9 +158,11 @@ fn a_region_is_named_by_its_number_from_0() {
     for region in [2, 1 << 32, u64::MAX] {
         assert_eq!(error_of(contains(&sheet, 1, region, 0)), Error::NoSuchRegion);
         assert_eq!(error_of(relocation_base_valid(&sheet, 1, region, 0)), Error::NoSuchRegion);
+        assert_eq!(error_of(relocation_base_range(&sheet, 1, region, 0, 0)), Error::NoSuchRegion);
     }
     assert_eq!(error_of(contains(&sheet, 0, 0, 0)), Error::QueryMaskZero);
     assert_eq!(error_of(relocation_base_valid(&sheet, 0, 0, 0)), Error::QueryMaskZero);
+    assert_eq!(error_of(relocation_base_range(&sheet, 0, 0, 0, 0)), Error::QueryMaskZero);
 }
 
 #[test]
@@ -276,5 +278,6 @@ fn empty_input_is_refused_by_every_call() {
     assert_eq!(relocations(&[], 1), Err(refusal));
     assert_eq!(relocations_into(&[], 1, &mut []), Err(refusal));
     assert_eq!(relocation_base_valid(&[], 1, 0, 0), Err(refusal));
+    assert_eq!(relocation_base_range(&[], 1, 0, 0, 0), Err(refusal));
     assert_eq!(contains(&[], 1, 0, 0), Err(refusal));
 }

@@ -44,6 +44,7 @@ fn over_a_limit(sheet: &[u8]) {
     assert_eq!(relocations_into(sheet, 1, &mut lent), Err(refusal));
     assert_eq!(lent, [0xA5; REGION_BYTES]);
     assert_eq!(relocation_base_valid(sheet, 1, 0, 0), Err(refusal));
+    assert_eq!(relocation_base_range(sheet, 1, 0, 1, 0), Err(refusal));
     assert_eq!(contains(sheet, 1, 9, 0), Err(refusal));
 }
 
@@ -66,6 +67,7 @@ fn a_firmware_of_6000_pages_is_accepted() {
     assert_eq!(line(&sheet), "accepted 1 1 6001");
     assert_eq!(relocations(&sheet, 1), relocations(&image_b().bytes().unwrap(), 1));
     assert_eq!(relocation_base_valid(&sheet, 1, 0, 0x1F_E000), Ok(BaseCheck::Valid));
+    assert_eq!(relocation_base_range(&sheet, 1, 0, 0, 0x1F_E000), Ok(BaseRange::Always));
     assert_eq!(contains(&sheet, 1, 0, 0x10_2000), Ok(false));
     directives[5999] = page(1, &data);
     let refusal = verdict(&with_directives(&directives)).unwrap_err();
@@ -120,6 +122,7 @@ fn a_thread_with_128_kib_of_stack_is_enough() {
     for (sheet, count) in [(with_directives(&accepted), Some(1)), (with_directives(&refused), None)] {
         let calls = move || {
             assert_eq!(relocation_base_valid(&sheet, 1, 0, 0).is_ok(), verdict(&sheet).is_ok());
+            assert_eq!(relocation_base_range(&sheet, 1, 0, 0, 0).is_ok(), verdict(&sheet).is_ok());
             relocations(&sheet, 1).ok().map(|found| found.regions.len())
         };
         let thread = std::thread::Builder::new().stack_size(128 * 1024).spawn(calls).unwrap();

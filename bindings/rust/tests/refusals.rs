@@ -3,15 +3,21 @@
 use sapyullu::{Error, List, Place, Refusal};
 use std::collections::BTreeSet;
 
+/// The refusals that have a name.
+fn named() -> impl Iterator<Item = u64> {
+    (1..=37).chain([50])
+}
+
 #[test]
 fn numbers_and_errors_go_together() {
-    for number in [0..=40, 255..=257, u64::MAX - 1..=u64::MAX].into_iter().flatten() {
+    for number in [0..=60, 255..=257, u64::MAX - 1..=u64::MAX].into_iter().flatten() {
         let error = Error::from_number(number);
         assert_eq!(error.number(), number);
-        assert_eq!(error == Error::Unknown(number), !(1..=37).contains(&number), "{number}");
+        assert_eq!(error == Error::Unknown(number), named().all(|named| named != number), "{number}");
     }
     assert_eq!(Error::from_number(1), Error::SheetEndsEarly);
     assert_eq!(Error::from_number(37), Error::TooFewWordsLent);
+    assert_eq!(Error::from_number(50), Error::LowestAboveHighest);
 }
 
 #[test]
@@ -21,8 +27,8 @@ fn names_are_the_rusts_where_it_has_one() {
     assert_eq!(name(14), "MultiplePlatformHeadersWithSameIsolation");
     assert_eq!(name(24), "InvalidHeaderArch");
     assert_eq!(name(34), "NoMatchingVpContext");
-    assert_eq!(name(38), "Unknown");
-    assert!((1..=37).all(|number| name(number) == format!("{:?}", Error::from_number(number))));
+    assert_eq!([38, 49, 51].map(name), ["Unknown"; 3]);
+    assert!(named().all(|number| name(number) == format!("{:?}", Error::from_number(number))));
 }
 
 #[test]
@@ -60,8 +66,8 @@ fn a_refusal_in_a_sheet_says_its_list_and_index() {
 
 #[test]
 fn every_error_has_a_cure_of_its_own() {
-    let cures: BTreeSet<&str> = (0..=37).map(|number| Error::from_number(number).cure()).collect();
-    assert_eq!(cures.len(), 38);
+    let cures: BTreeSet<&str> = named().chain([0]).map(|number| Error::from_number(number).cure()).collect();
+    assert_eq!(cures.len(), 39);
     let is_sentence = |cure: &str| cure.starts_with(|c: char| c.is_ascii_lowercase()) && !cure.ends_with('.');
     assert!(cures.iter().all(|cure| is_sentence(cure)));
     assert_eq!(Error::NoPlatformHeaders.cure(), "list at least one platform");
