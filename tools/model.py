@@ -1,5 +1,5 @@
-"""The verdict of document 01 on a sheet, with the limits of request 1, the refusals of its queries, and the base check of request 7, written from the papers alone and
-as plainly as it goes.
+"""The verdict of document 01 on a sheet, with the limits of request 1, the refusals of its queries, the base check of request 7, and the range of request 13, written from
+the papers alone and as plainly as it goes.
 
 It serves one purpose: `sheets.py --check` holds the lines that are written by hand beside the samples against it.
 Rows are numbered from 1 across the lists, as in the paper.
@@ -27,6 +27,9 @@ KINDS |= {32: (2, 18, False), 33: (2, 12, False)}
 KINDS |= {kind: (2, 8, True) for kind in range(34, 44)}
 KINDS |= {44: (2, 17, True), 45: (2, 14, False), 46: (2, 6, False), 47: (2, 5, False), 48: (2, 5, False)}
 KINDS |= {49: (2, 6, False), 50: (2, 16, True), 51: (2, 16, True), 52: (2, 4, False), 53: (2, 4, False)}
+
+# The refusals there are. 38 to 49 are those of requests that are not done.
+REFUSALS = (*range(1, 38), 50)
 
 LIMITS = (16, 64, 8192)
 BYTE_LIMIT = 67108864
@@ -228,13 +231,35 @@ def base_check(s, mask, region, base):
     return "answered 1"
 
 
-CALLS = {"verdict": verdict, "relocations": relocations, "relocation_base_valid": base_check, "contains": contains}
+def base_range(s, mask, region, lowest, highest):
+    """50; then, of the multiples of the alignment from lowest to highest, ends included: 1 always, if there is one and all are valid; 2 never, if none is
+    valid; else 3 sometimes."""
+    alignment, size, minimum, maximum = chosen(s, mask, region)
+    refuse(lowest > highest, 50)
+    multiples = range(-(-lowest // alignment) * alignment, highest + 1, alignment)
+    if len(multiples) > 100:
+        # The valid ones are those from the minimum to maximum - size, so that whether one is valid changes from one multiple to the next at these two places
+        # alone. The first and the last multiple, and those about the two places, are enough: each change in the range lies between two of them.
+        about = [multiples[0], multiples[-1]]
+        for place in (minimum, maximum - size):
+            about += [(place // alignment + step) * alignment for step in (-1, 0, 1)]
+        multiples = [base for base in about if base in multiples]
+    valid = [minimum <= base and base + size <= maximum for base in multiples]
+    if valid and all(valid):
+        return "answered 1"
+    if not any(valid):
+        return "answered 2"
+    return "answered 3"
+
+
+CALLS = {"verdict": verdict, "relocations": relocations, "relocation_base_valid": base_check, "relocation_base_range": base_range,
+         "contains": contains}
 
 
 def line(s, call="verdict"):
     """The line that `admit` writes of a sheet, where the call is the verdict; a sheet of more than 65,536 bytes is answered as by the call.
     Another call has the names of its numbers, each before its number: `relocations mask 1 lent 64`. Where it is refused, the line says so likewise; of a base
-    that is checked, it says which of the four answers is given."""
+    or a range that is checked, it says which answer is given, by its number."""
     name, *words = call.split()
     try:
         return CALLS[name](s, **dict(zip(words[::2], map(int, words[1::2]))))

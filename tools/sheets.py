@@ -12,7 +12,7 @@ The line beside a sample is written by hand from the paper. `--check` holds it a
     tools/sheets.py --list               each sample's name, line and description
     tools/sheets.py --write DIR NAME..   write these samples (no NAME: all of up to 65,536 bytes) into DIR, and print 'name: line' for each
     tools/sheets.py --gate               write args, data/ and stdout of the program crates/admit_sheets
-    tools/sheets.py --samples            write the folder samples: one sheet for each refusal, some accepted ones and some base checks, with a README
+    tools/sheets.py --samples            write the folder samples: one sheet for each refusal, some accepted ones and some checks of bases and ranges, with a README
 """
 
 import sys
@@ -708,6 +708,8 @@ SHOWN = [
     Shown("36-region-1", "b", "region 1 where there is one region: numbers count from 0",
           "relocation_base_valid mask 1 region 1 base 1048576", "refused 36 row 0 detail 0"),
     Shown("37-seven-words", "b", "seven words lent, where a region takes eight", "relocations mask 1 lent 56", "refused 37 row 0 detail 0"),
+    Shown("50-lowest-above-highest", "b", "lowest 0x101000, highest 0x100000",
+          "relocation_base_range mask 1 region 0 lowest 1052672 highest 1048576", "refused 50 row 0 detail 0"),
     Shown("base-1-valid", "one-base", "base 0x100000, the minimum, from where the region ends at its maximum, 0x102000",
           "relocation_base_valid mask 1 region 0 base 1048576", "answered 1"),
     Shown("base-2-unaligned", "one-base", "base 0xFF800, alignment 0x1000; the base is below the minimum, 0x100000, too",
@@ -718,19 +720,30 @@ SHOWN = [
           "relocation_base_valid mask 1 region 0 base 2093056", "answered 4"),
     Shown("base-4-end-at-2-64", "maximum-top", "base 0xFFFFFFFFFFFFE000: base and size add up to 2^64, above every maximum",
           "relocation_base_valid mask 1 region 0 base 18446744073709543424", "answered 4"),
+    Shown("range-1-always", "b", "0 to 0x1FEFFF, alignment 0x1000: the last multiple is 0x1FE000, from where the region ends at its maximum, 0x200000",
+          "relocation_base_range mask 1 region 0 lowest 0 highest 2093055", "answered 1"),
+    Shown("range-2-never", "minimum-above", "0 to 2^64 - 1; the minimum, 0x201000, is above the maximum, 0x200000",
+          "relocation_base_range mask 1 region 0 lowest 0 highest 18446744073709551615", "answered 2"),
+    Shown("range-2-no-multiple", "alignment-3000", "0x301000 to 0x302FFF: no multiple of 0x3000; 0x300000 and 0x303000, about the range, are valid",
+          "relocation_base_range mask 1 region 0 lowest 3149824 highest 3158015", "answered 2"),
+    Shown("range-3-sometimes", "b", "0 to 0x1FF000: at the highest alone the region ends above its maximum, 0x200000",
+          "relocation_base_range mask 1 region 0 lowest 0 highest 2093056", "answered 3"),
+    Shown("range-3-to-2-64", "maximum-top", "0xFFFFFFFFFFFFD000 to 2^64 - 1: base and size add up to 2^64 - 0x1000, the maximum, then to 2^64 and to 2^64 + 0x1000",
+          "relocation_base_range mask 1 region 0 lowest 18446744073709539328 highest 18446744073709551615", "answered 3"),
 ]
 
 FOLDER = REPOSITORY / "samples"
 README = """# Sample sheets
 
-One sheet for each refusal, some that are accepted, and some for whose region a base is proposed. `admit` answers the verdict:
+One sheet for each refusal, some that are accepted, and some for whose region a base or a range of bases is proposed. `admit` answers the verdict:
 
     rt check admit && target/bin/admit < samples/19-alignment-zero.sheet
 
 It takes up to 65,536 bytes and refuses by 3 what is longer: `accepted-largest-lists`, `accepted-6000-pages`, `accepted-8192-directives` and `03-8193-directives`, whose answers beside them are those of the library's
-call and of the examples in Rust and in C. The verdict accepts 35 to 37; it is the call beside them that is refused (`lent` is in bytes). It accepts the sheets `base-..` too. The call beside them checks a base, and
-`answered` stands in front of the number of its answer: 1 valid, 2 unaligned, 3 below the minimum, 4 above the maximum, the first that applies. `docs/SHEET.md` says how a sheet is written and when a base is valid,
-`docs/REFUSALS.md` what each refusal means and how to mend it. `tools/sheets.py --samples` writes this folder, and `tools/sheets.py --check` holds it to the samples and the lines of its list.
+call and of the examples in Rust and in C. The verdict accepts 35 to 37 and 50; it is the call beside them that is refused (`lent` is in bytes). It accepts the sheets `base-..` and `range-..` too. The call
+beside them checks a base or a range, and `answered` stands in front of the number of its answer. Of a base: 1 valid, 2 unaligned, 3 below the minimum, 4 above the maximum, the first that applies. Of a range: 1 always,
+2 never, 3 sometimes. `docs/SHEET.md` says how a sheet is written, when a base is valid and what is said of a range, `docs/REFUSALS.md` what each refusal means and how to mend it.
+`tools/sheets.py --samples` writes this folder, and `tools/sheets.py --check` holds it to the samples and the lines of its list.
 
 | file | call | answer | what it shows |
 |---|---|---|---|
@@ -766,7 +779,7 @@ def wrong_names():
         for name in sorted({name for name in names if names.count(name) > 1}):
             yield f"{name}: two samples of this name"
     refusals = {int(shown.answer().split()[1]) for shown in SHOWN if shown.answer().startswith("refused")}
-    for number in sorted(set(range(1, 38)) - refusals):
+    for number in sorted(set(model.REFUSALS) - refusals):
         yield f"{FOLDER}: refusal {number} is not shown"
 
 

@@ -26,7 +26,8 @@ impl Sample {
         fs::read(Path::new(FOLDER).join(&self.file)).unwrap()
     }
 
-    /// The call's answer: a line of an accepted verdict, for other calls that are answered a line with a base check's number, or the refusal.
+    /// The call's answer: a line of an accepted verdict, for other calls that are answered a line with the number of a check of a base or of
+    /// a range, or the refusal.
     fn made(&self) -> Result<String, Refusal> {
         let sheet = self.sheet();
         let words: Vec<&str> = self.call.split(' ').collect();
@@ -40,6 +41,10 @@ impl Sample {
             ["relocation_base_valid", "mask", mask, "region", region, "base", base] => {
                 let check = relocation_base_valid(&sheet, number(mask) as u32, number(region), number(base));
                 check.map(|check| format!("answered {}", check.number()))
+            }
+            ["relocation_base_range", "mask", mask, "region", region, "lowest", lowest, "highest", highest] => {
+                let range = relocation_base_range(&sheet, number(mask) as u32, number(region), number(lowest), number(highest));
+                range.map(|range| format!("answered {}", range.number()))
             }
             _ => panic!("no such call: {}", self.call),
         }
@@ -67,9 +72,9 @@ fn every_refusal_has_a_sample_and_a_name() {
     let mut numbers: Vec<u64> = refusals.iter().map(|error| error.number()).collect();
     assert!(numbers.windows(2).all(|pair| pair[0] <= pair[1]), "the list has them in order");
     numbers.dedup();
-    assert_eq!(numbers, (1..=37).collect::<Vec<_>>());
+    assert_eq!(numbers, (1..=37).chain([50]).collect::<Vec<_>>());
     let names: BTreeSet<&str> = refusals.iter().map(|error| error.name()).collect();
-    assert_eq!(names.len(), 37);
+    assert_eq!(names.len(), 38);
     assert!(!names.contains("Unknown"));
 }
 
@@ -80,6 +85,7 @@ fn a_query_of_a_refused_sheet_gives_the_verdicts_refusal() {
         if let Err(refusal) = verdict(&sheet) {
             assert_eq!(relocations(&sheet, 0), Err(refusal), "{}", sample.file);
             assert_eq!(relocation_base_valid(&sheet, 1, 9, 0), Err(refusal), "{}", sample.file);
+            assert_eq!(relocation_base_range(&sheet, 1, 9, 1, 0), Err(refusal), "{}", sample.file);
             assert_eq!(contains(&sheet, 1, 9, 0), Err(refusal), "{}", sample.file);
         }
     }
