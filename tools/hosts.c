@@ -1,6 +1,7 @@
 /* Holds libigvm.a to what include/igvm.h says beside the proved contracts: calls and their siblings agree, on several threads at once, within IGVM_STACK_BYTES of
- * stack, a base check answers one of the four, and lent bytes that overlap the sheet get what others get. The arguments are files of sheets. It writes the stack that
- * each call takes on four images made here; the last line is `N sheets, S bytes of stack`, the most that any call took. */
+ * stack, a base check answers one of the four, a range of bases one of the three and as the base check at its ends, and lent bytes that overlap the sheet get what others
+ * get. The arguments are files of sheets. It writes the stack that each call takes on four images made here; the last line is `N sheets, S bytes of stack`, the most that
+ * any call took. */
 #define _GNU_SOURCE
 #include <pthread.h>
 #include <stdio.h>
@@ -59,7 +60,22 @@ static void verdict(const char *file, const uint8_t *sheet, size_t n) {
     hold_numbers(file, numbers, IGVM_VERDICT_NUMBERS, igvm_verdict_numbers(sheet, n, numbers, sizeof numbers), each);
 }
 
-/* Both checks at this place, in a region that the mask has. Returns the base check's answer. */
+/* The bases from lowest to highest, for a region that the mask has. Returns the answer, 0 where the lowest is above the highest. */
+static uint64_t range(const char *file, const uint8_t *sheet, size_t n, uint32_t mask, uint64_t region, uint64_t lowest, uint64_t highest) {
+    uint8_t numbers[8 * IGVM_CHECK_NUMBERS + 1];
+    uint64_t each[IGVM_CHECK_NUMBERS];
+    memset(numbers, PAINT, sizeof numbers);
+    for (uint32_t k = 0; k < IGVM_CHECK_NUMBERS; k++) each[k] = igvm_relocation_base_range(sheet, n, mask, region, lowest, highest, k);
+    hold_numbers(file, numbers, IGVM_CHECK_NUMBERS, igvm_relocation_base_range_numbers(sheet, n, mask, region, lowest, highest, numbers, sizeof numbers), each);
+    uint64_t answer = each[IGVM_BASE_RANGE];
+    if (lowest > highest)
+        hold(each[IGVM_NUMBER] == IGVM_ERROR_LOWEST_ABOVE_HIGHEST && answer == 0, file, "a lowest above the highest is not refused by 50");
+    else
+        hold(each[IGVM_NUMBER] == IGVM_ACCEPTED && answer >= IGVM_RANGE_ALWAYS && answer <= IGVM_RANGE_SOMETIMES, file, "a range gives none of its answers");
+    return answer;
+}
+
+/* Both checks at this place, in a region that the mask has, and the range of this one base. Returns the base check's answer. */
 static uint64_t checks(const char *file, const uint8_t *sheet, size_t n, uint32_t mask, uint64_t region, const uint8_t *words, uint64_t at) {
     uint8_t numbers[8 * IGVM_CHECK_NUMBERS + 1];
     uint64_t each[IGVM_CHECK_NUMBERS];
@@ -69,10 +85,25 @@ static uint64_t checks(const char *file, const uint8_t *sheet, size_t n, uint32_
     uint64_t base_check = each[IGVM_BASE_CHECK];
     hold(each[IGVM_NUMBER] == IGVM_ACCEPTED && base_check >= IGVM_BASE_VALID && base_check <= IGVM_BASE_ABOVE_MAXIMUM, file, "a base check gives none of its answers");
     hold(igvm_region_base_valid(words, IGVM_REGION_BYTES, at) == base_check, file, "the region's words say another base");
+    uint64_t one = base_check == IGVM_BASE_VALID ? IGVM_RANGE_ALWAYS : IGVM_RANGE_NEVER;
+    hold(range(file, sheet, n, mask, region, at, at) == one, file, "a range of one base answers otherwise than the base check");
     for (uint32_t k = 0; k < IGVM_CHECK_NUMBERS; k++) each[k] = igvm_contains(sheet, n, mask, region, at, k);
     hold_numbers(file, numbers, IGVM_CHECK_NUMBERS, igvm_contains_numbers(sheet, n, mask, region, at, numbers, sizeof numbers), each);
     hold(igvm_region_contains(words, IGVM_REGION_BYTES, at) == each[IGVM_CONTAINED], file, "the region's words say another address");
     return base_check;
+}
+
+/* The ranges between neighbouring places of a region, at which the base check has these answers, and of all bases. Returns the answer of the last. */
+static uint64_t ranges(const char *file, const uint8_t *sheet, size_t n, uint32_t mask, uint64_t region, const uint64_t *places, const uint64_t *answers, size_t count) {
+    for (size_t i = 1; i < count; i++) {
+        uint64_t answer = range(file, sheet, n, mask, region, places[i - 1], places[i]);
+        for (size_t end = i - 1; end <= i; end++) {
+            hold(answer != IGVM_RANGE_NEVER || answers[end] != IGVM_BASE_VALID, file, "a range is never valid, and its end is");
+            /* What is unaligned does not count. */
+            hold(answer != IGVM_RANGE_ALWAYS || answers[end] == IGVM_BASE_VALID || answers[end] == IGVM_BASE_UNALIGNED, file, "a range is always valid, and its end is not");
+        }
+    }
+    return range(file, sheet, n, mask, region, 0, UINT64_MAX);
 }
 
 static void relocations(const char *file, const uint8_t *sheet, size_t n, uint32_t mask, uint8_t *overlapping) {
@@ -87,13 +118,24 @@ static void relocations(const char *file, const uint8_t *sheet, size_t n, uint32
     memcpy(overlapping, sheet, n);
     hold(igvm_relocations(overlapping, n, mask, overlapping, WORDS, IGVM_COUNT) == each[IGVM_COUNT], file, "another count where the words overlap the sheet");
     hold(memcmp(words, overlapping, IGVM_REGION_BYTES * each[IGVM_COUNT]) == 0, file, "other words where they overlap the sheet");
+    uint64_t refused = each[IGVM_NUMBER] != IGVM_ACCEPTED ? each[IGVM_NUMBER] : IGVM_ERROR_NO_SUCH_REGION;
+    hold(igvm_relocation_base_range(sheet, n, mask, each[IGVM_COUNT], 1, 0, IGVM_NUMBER) == refused, file, "50 is not the last refusal of a range");
     for (uint64_t k = 0; k < each[IGVM_COUNT]; k++) {
         const uint8_t *region = words + IGVM_REGION_BYTES * k;
         uint64_t places[] = {0, word(region, 0), word(region, 0) + word(region, 1), word(region, 3), word(region, 4) - word(region, 1), UINT64_MAX};
-        uint64_t first = checks(file, sheet, n, mask, k, region, places[0]), differ = 0;
-        for (size_t i = 1; i < sizeof places / sizeof *places; i++) differ |= first ^ checks(file, sheet, n, mask, k, region, places[i]);
+        uint64_t answers[sizeof places / sizeof *places], differ = 0;
+        for (size_t i = 0; i < sizeof places / sizeof *places; i++) {
+            answers[i] = checks(file, sheet, n, mask, k, region, places[i]);
+            differ |= answers[0] ^ answers[i];
+        }
         /* A region's own base is aligned, and UINT64_MAX is not. */
         hold(differ != 0, file, "the base check gives one answer everywhere");
+        /* The minimum is the first multiple that can be valid, and at the highest multiple of all the region ends above its maximum, which is one too. */
+        uint64_t all = answers[3] == IGVM_BASE_VALID ? IGVM_RANGE_SOMETIMES : IGVM_RANGE_NEVER;
+        hold(ranges(file, sheet, n, mask, k, places, answers, sizeof places / sizeof *places) == all, file, "the range of all bases answers otherwise than the minimum");
+        memcpy(overlapping, sheet, n);
+        hold(igvm_relocation_base_range_numbers(overlapping, n, mask, k, 0, UINT64_MAX, overlapping, WORDS) == IGVM_ACCEPTED && word(overlapping, IGVM_BASE_RANGE) == all, file,
+             "another range where the numbers overlap the sheet");
     }
 }
 
@@ -119,10 +161,12 @@ static void call_2(const uint8_t *s, size_t n) { igvm_relocations(s, n, 1, words
 static void call_3(const uint8_t *s, size_t n) { igvm_relocations_numbers(s, n, 1, words_lent, sizeof words_lent, numbers_lent, sizeof numbers_lent); }
 static void call_4(const uint8_t *s, size_t n) { igvm_relocation_base_valid(s, n, 1, 0, 0, 0); }
 static void call_5(const uint8_t *s, size_t n) { igvm_relocation_base_valid_numbers(s, n, 1, 0, 0, numbers_lent, sizeof numbers_lent); }
-static void call_6(const uint8_t *s, size_t n) { igvm_contains(s, n, 1, 0, 0, 0); }
-static void call_7(const uint8_t *s, size_t n) { igvm_contains_numbers(s, n, 1, 0, 0, numbers_lent, sizeof numbers_lent); }
-static void call_8(const uint8_t *s, size_t n) { igvm_region_base_valid(s, n, 0); }
-static void call_9(const uint8_t *s, size_t n) { igvm_region_contains(s, n, 0); }
+static void call_6(const uint8_t *s, size_t n) { igvm_relocation_base_range(s, n, 1, 0, 0, UINT64_MAX, 0); }
+static void call_7(const uint8_t *s, size_t n) { igvm_relocation_base_range_numbers(s, n, 1, 0, 0, UINT64_MAX, numbers_lent, sizeof numbers_lent); }
+static void call_8(const uint8_t *s, size_t n) { igvm_contains(s, n, 1, 0, 0, 0); }
+static void call_9(const uint8_t *s, size_t n) { igvm_contains_numbers(s, n, 1, 0, 0, numbers_lent, sizeof numbers_lent); }
+static void call_10(const uint8_t *s, size_t n) { igvm_region_base_valid(s, n, 0); }
+static void call_11(const uint8_t *s, size_t n) { igvm_region_contains(s, n, 0); }
 
 static const struct {
     const char *name;
@@ -134,10 +178,12 @@ static const struct {
     {"igvm_relocations_numbers", call_3},
     {"igvm_relocation_base_valid", call_4},
     {"igvm_relocation_base_valid_numbers", call_5},
-    {"igvm_contains", call_6},
-    {"igvm_contains_numbers", call_7},
-    {"igvm_region_base_valid", call_8},
-    {"igvm_region_contains", call_9},
+    {"igvm_relocation_base_range", call_6},
+    {"igvm_relocation_base_range_numbers", call_7},
+    {"igvm_contains", call_8},
+    {"igvm_contains_numbers", call_9},
+    {"igvm_region_base_valid", call_10},
+    {"igvm_region_contains", call_11},
 };
 #define CALLS (sizeof calls / sizeof *calls)
 
