@@ -19,6 +19,15 @@ mod linked {
         fn igvm_relocations(sheet: *const u8, sheet_len: usize, mask: u32, words: *mut u8, words_len: usize, which: u32) -> u64;
         fn igvm_relocation_base_valid(sheet: *const u8, sheet_len: usize, mask: u32, region: u64, base: u64, which: u32) -> u64;
         fn igvm_contains(sheet: *const u8, sheet_len: usize, mask: u32, region: u64, gpa: u64, which: u32) -> u64;
+        fn igvm_relocation_base_range(
+            sheet: *const u8,
+            sheet_len: usize,
+            mask: u32,
+            region: u64,
+            lowest: u64,
+            highest: u64,
+            which: u32,
+        ) -> u64;
         fn igvm_verdict_numbers(sheet: *const u8, sheet_len: usize, numbers: *mut u8, numbers_len: usize) -> u64;
         fn igvm_relocations_numbers(
             sheet: *const u8,
@@ -44,6 +53,16 @@ mod linked {
             mask: u32,
             region: u64,
             gpa: u64,
+            numbers: *mut u8,
+            numbers_len: usize,
+        ) -> u64;
+        fn igvm_relocation_base_range_numbers(
+            sheet: *const u8,
+            sheet_len: usize,
+            mask: u32,
+            region: u64,
+            lowest: u64,
+            highest: u64,
             numbers: *mut u8,
             numbers_len: usize,
         ) -> u64;
@@ -87,6 +106,10 @@ mod linked {
         unsafe { igvm_contains(pointer(sheet, which as usize), sheet.len(), mask, region, gpa, which) }
     }
 
+    fn relocation_base_range(sheet: &[u8], mask: u32, region: u64, lowest: u64, highest: u64, which: u32) -> u64 {
+        unsafe { igvm_relocation_base_range(pointer(sheet, which as usize), sheet.len(), mask, region, lowest, highest, which) }
+    }
+
     fn verdict_numbers(sheet: &[u8], numbers: &mut [u8]) -> u64 {
         let sheet_start = pointer(sheet, numbers.len());
         unsafe { igvm_verdict_numbers(sheet_start, sheet.len(), lent(numbers, sheet.len()), numbers.len()) }
@@ -108,6 +131,11 @@ mod linked {
         unsafe { igvm_contains_numbers(sheet_start, sheet.len(), mask, region, gpa, numbers_start, numbers.len()) }
     }
 
+    fn relocation_base_range_numbers(sheet: &[u8], mask: u32, region: u64, lowest: u64, highest: u64, numbers: &mut [u8]) -> u64 {
+        let (sheet_start, numbers_start) = (pointer(sheet, numbers.len()), lent(numbers, sheet.len()));
+        unsafe { igvm_relocation_base_range_numbers(sheet_start, sheet.len(), mask, region, lowest, highest, numbers_start, numbers.len()) }
+    }
+
     fn region_base_valid(region: &[u8], base: u64) -> u64 {
         unsafe { igvm_region_base_valid(pointer(region, base as usize), region.len(), base) }
     }
@@ -121,10 +149,12 @@ mod linked {
         relocations,
         relocation_base_valid,
         contains,
+        relocation_base_range,
         verdict_numbers,
         relocations_numbers,
         relocation_base_valid_numbers,
         contains_numbers,
+        relocation_base_range_numbers,
         region_base_valid,
         region_contains,
     };

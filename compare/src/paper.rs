@@ -1,6 +1,6 @@
-// Document 01 in plain Rust, in its order, with the refusal's number beside each test; and why a base is not valid, as document 02 has it. It is written for
-// reading, not for speed. It is what the calls are compared with where the Rust has no answer: 1 to 6, 19, 27, 28, 35 to 37, regions' words that it can't
-// hold, and why a base is not valid.
+// Document 01 in plain Rust, in its order, with the refusal's number beside each test; and of document 02 why a base is not valid, and the answer
+// over a range of bases. It is written for reading, not for speed. It is what the calls are compared with where the Rust has no answer: 1 to 6, 19,
+// 27, 28, 35 to 37, 50, regions' words that it can't hold, why a base is not valid, and ranges of more multiples than are tried.
 // mutations.txt edits this text: each wrong copy must be caught.
 
 use calls::Calls;
@@ -373,7 +373,7 @@ pub fn verdict(s: &[u8]) -> [u64; 6] {
     }
 }
 
-// ---- the queries: the verdict, 35, then 36 or 37
+// ---- the queries: the verdict, 35, then 36 or 37; of a range 50 behind 36
 
 /// A region's eight words: base, size, alignment, minimum, maximum, flags, VP, VTL.
 pub type Words = [u64; 8];
@@ -463,6 +463,67 @@ pub fn contains(s: &[u8], mask: u32, region: u64, gpa: u64) -> [u64; 4] {
     check(s, mask, region, |&[base, size, ..]| u64::from(gpa >= base && u128::from(gpa) < end(base, size)))
 }
 
+const ALWAYS: u64 = 1;
+const NEVER: u64 = 2;
+const SOMETIMES: u64 = 3;
+
+/// The multiples of an alignment from the lowest to the highest, ends included, in exact numbers. The alignment is not 0, as that of an accepted
+/// region.
+fn multiples(alignment: u64, lowest: u64, highest: u64) -> impl Iterator<Item = u64> {
+    let [alignment, lowest, highest] = [alignment, lowest, highest].map(u128::from);
+    let from_below = (lowest / alignment..).map(move |times| times * alignment);
+    from_below.skip_while(move |base| *base < lowest).take_while(move |base| *base <= highest).map(|base| base as u64)
+}
+
+/// Always if there is a base and all are valid, never if none is valid, else sometimes (document 02, request 13).
+fn over(words: &Words, bases: impl Iterator<Item = u64>) -> u64 {
+    let (mut some_valid, mut some_not) = (false, false);
+    for base in bases {
+        match base_check(words, base) {
+            VALID => some_valid = true,
+            _ => some_not = true,
+        }
+    }
+    match (some_valid, some_not) {
+        (false, _) => NEVER,
+        (true, false) => ALWAYS,
+        (true, true) => SOMETIMES,
+    }
+}
+
+/// So many multiples of a range are tried, each of them.
+const TRIED: u64 = 4096;
+
+/// The answer over a range by trying each multiple, if there are no more than are tried.
+pub fn by_each(words: &Words, lowest: u64, highest: u64) -> Option<u64> {
+    let alignment = words[2];
+    (highest.saturating_sub(lowest) / alignment < TRIED).then(|| over(words, multiples(alignment, lowest, highest)))
+}
+
+/// The answer over a range by the multiples near its two ends, the minimum and maximum - size, a few on either side of each. No other need be tried:
+/// from one multiple to the next, being below the minimum changes at the minimum alone, and being above the maximum at maximum - size alone. So
+/// between two of these four numbers that are neighbours all multiples are valid or none is, and if there is one, there is one near. Where the size
+/// is above the maximum, no base is valid.
+pub fn by_places(words: &Words, lowest: u64, highest: u64) -> u64 {
+    let &[_, size, alignment, minimum, maximum, ..] = words;
+    let few = alignment.saturating_mul(3);
+    let near = |place: u64| multiples(alignment, place.saturating_sub(few).max(lowest), place.saturating_add(few).min(highest));
+    over(words, [lowest, highest, minimum, maximum.saturating_sub(size)].into_iter().flat_map(near))
+}
+
+/// The answer over a range.
+fn range_check(words: &Words, lowest: u64, highest: u64) -> u64 {
+    by_each(words, lowest, highest).unwrap_or_else(|| by_places(words, lowest, highest))
+}
+
+/// Number 3 is the answer over the range.
+pub fn relocation_base_range(s: &[u8], mask: u32, region: u64, lowest: u64, highest: u64) -> [u64; 4] {
+    match check(s, mask, region, |words| range_check(words, lowest, highest)) {
+        [0, ..] if lowest > highest => [50, 0, 0, 0],
+        numbers => numbers,
+    }
+}
+
 // ---- the same checks by a region's eight words alone, without the sheet: number 3 of the answer, 0 where the bytes are no region
 
 /// The words of a region's bytes. Fewer than 64 bytes are no region, and bytes behind them do not count.
@@ -501,10 +562,16 @@ pub const CALLS: Calls = Calls {
     relocations: |s, mask, lent, which| number(which, &relocations(s, mask, lent)),
     relocation_base_valid: |s, mask, region, base, which| number(which, &relocation_base_valid(s, mask, region, base)),
     contains: |s, mask, region, gpa, which| number(which, &contains(s, mask, region, gpa)),
+    relocation_base_range: |s, mask, region, lowest, highest, which| {
+        number(which, &relocation_base_range(s, mask, region, lowest, highest))
+    },
     verdict_numbers: |s, numbers| put(&verdict(s), numbers),
     relocations_numbers: |s, mask, lent, numbers| put(&relocations(s, mask, lent), numbers),
     relocation_base_valid_numbers: |s, mask, region, base, numbers| put(&relocation_base_valid(s, mask, region, base), numbers),
     contains_numbers: |s, mask, region, gpa, numbers| put(&contains(s, mask, region, gpa), numbers),
+    relocation_base_range_numbers: |s, mask, region, lowest, highest, numbers| {
+        put(&relocation_base_range(s, mask, region, lowest, highest), numbers)
+    },
     region_base_valid,
     region_contains,
 };
