@@ -1,8 +1,9 @@
 //! One sheet, one call, three answers: of the calls under test, of document 01 in Rust, and, on its domain, of the Rust itself.
-//! To the verdict there is a fourth, of plain.rs. region.rs has the checks by a region's words.
+//! To the verdict there is a fourth, of plain.rs, and to a range of bases that of ranges.rs. region.rs has the checks by a region's words.
 
 use crate::alignments::Alignments;
 use crate::bases::Bases;
+use crate::ranges::{self, Ranges};
 use crate::{paper, plain, region};
 use calls::Calls;
 use oracle::{Headers, Judged, Relocated};
@@ -15,6 +16,7 @@ pub enum Call {
     Relocations { mask: u32, lent: usize },
     BaseValid { mask: u32, region: u64, base: u64 },
     Contains { mask: u32, region: u64, gpa: u64 },
+    BaseRange { mask: u32, region: u64, lowest: u64, highest: u64 },
     RegionBaseValid { base: u64 },
     RegionContains { gpa: u64 },
 }
@@ -144,7 +146,8 @@ impl Rust {
         file.filter(|_| self.queries && mask != 0).map(|file| Relocated::of(file, mask)).transpose()
     }
 
-    /// The Rust's answer, where it has one: not for mask 0, a region's number too high, too few words, or a sum of 2^64 or more.
+    /// The Rust's answer, where it has one: not for mask 0, a region's number too high, too few words, or a sum of 2^64 or more. Over a range of
+    /// bases it is the one that follows from its check of each multiple: not where the lowest is above the highest, or there are more than are tried.
     pub fn answer(&self, call: Call, words: &mut [u8]) -> Result<Option<SaidNumbers>, String> {
         let Some(judged) = &self.judged else {
             return Ok(None);
@@ -173,6 +176,10 @@ impl Rust {
                 let region = found.regions.get(region as usize);
                 region.map(|r| said_alone(3, Said::Number(r.contains(gpa).into())))
             }
+            Call::BaseRange { region, lowest, highest, .. } => {
+                let region = found.regions.get(region as usize).filter(|_| lowest <= highest);
+                region.and_then(|r| ranges::by_rust(r, (lowest, highest))).map(|answer| said_alone(3, Said::Number(answer)))
+            }
         })
     }
 }
@@ -192,6 +199,7 @@ impl Call {
         match self {
             Call::Verdict | Call::RegionBaseValid { .. } | Call::RegionContains { .. } => 0,
             Call::Relocations { mask, .. } | Call::BaseValid { mask, .. } | Call::Contains { mask, .. } => mask,
+            Call::BaseRange { mask, .. } => mask,
         }
     }
 
@@ -212,7 +220,7 @@ impl Call {
         match self {
             Call::Verdict => 6,
             Call::Relocations { .. } => 10,
-            Call::BaseValid { .. } | Call::Contains { .. } => 4,
+            Call::BaseValid { .. } | Call::Contains { .. } | Call::BaseRange { .. } => 4,
             Call::RegionBaseValid { .. } | Call::RegionContains { .. } => 1,
         }
     }
@@ -237,6 +245,9 @@ impl Call {
             Call::Relocations { mask, .. } => numbers_of(&paper::relocations(sheet, mask, words)),
             Call::BaseValid { mask, region, base } => numbers_of(&paper::relocation_base_valid(sheet, mask, region, base)),
             Call::Contains { mask, region, gpa } => numbers_of(&paper::contains(sheet, mask, region, gpa)),
+            Call::BaseRange { mask, region, lowest, highest } => {
+                numbers_of(&paper::relocation_base_range(sheet, mask, region, lowest, highest))
+            }
             Call::RegionBaseValid { base } => numbers_of(&[paper::region_base_valid(sheet, base)]),
             Call::RegionContains { gpa } => numbers_of(&[paper::region_contains(sheet, gpa)]),
         }
@@ -248,6 +259,7 @@ impl Call {
             Call::Relocations { mask, .. } => (calls.relocations)(sheet, mask, words, which),
             Call::BaseValid { mask, region, base } => (calls.relocation_base_valid)(sheet, mask, region, base, which),
             Call::Contains { mask, region, gpa } => (calls.contains)(sheet, mask, region, gpa, which),
+            Call::BaseRange { mask, region, lowest, highest } => (calls.relocation_base_range)(sheet, mask, region, lowest, highest, which),
             Call::RegionBaseValid { base } => (calls.region_base_valid)(sheet, base),
             Call::RegionContains { gpa } => (calls.region_contains)(sheet, gpa),
         }
@@ -260,6 +272,9 @@ impl Call {
             Call::Relocations { mask, .. } => (calls.relocations_numbers)(sheet, mask, words, numbers),
             Call::BaseValid { mask, region, base } => (calls.relocation_base_valid_numbers)(sheet, mask, region, base, numbers),
             Call::Contains { mask, region, gpa } => (calls.contains_numbers)(sheet, mask, region, gpa, numbers),
+            Call::BaseRange { mask, region, lowest, highest } => {
+                (calls.relocation_base_range_numbers)(sheet, mask, region, lowest, highest, numbers)
+            }
             Call::RegionBaseValid { .. } | Call::RegionContains { .. } => unreachable!("a check by a region's words has no sibling"),
         }
     }
@@ -287,7 +302,7 @@ pub enum Between {
     Rust,
     /// the calls and document 01
     Paper,
-    /// plain.rs and document 01
+    /// plain Rust and document 01, or paper.rs's two rules for a range of bases
     Plain,
 }
 
@@ -301,14 +316,15 @@ pub struct Difference {
     pub between: Between,
 }
 
-/// What a comparison has seen: the refusal's number, how many regions were checked by their words too, and the alignments and the answers of those checked at
-/// a base.
+/// What a comparison has seen: the refusal's number, how many regions were checked by their words too, the alignments and the answers of those
+/// checked at a base, and the ranges of bases.
 #[derive(Default)]
 pub struct Agreed {
     pub number: u64,
     pub regions: u64,
     pub alignments: Alignments,
     pub bases: Bases,
+    pub ranges: Ranges,
 }
 
 /// The answers to one call, compared: every number, one by one and all at once, every lent byte, and the bytes on either side; and what is said of a region by its words.
@@ -323,6 +339,9 @@ pub fn check(calls: &Calls, sheet: &[u8], rust: &Rust, call: Call, extent: Exten
     let by_rust = rust.answer(call, lent_part(&mut rust_bytes)).map_err(|message| differ(Between::Rust, message))?;
     if call == Call::Verdict {
         verdict_alike(sheet, rust, &by_paper)?;
+    }
+    if let Call::BaseRange { mask, region, lowest, highest } = call {
+        range_alike(sheet, (mask, region, lowest, highest), &by_paper).map_err(|what| differ(Between::Plain, what))?;
     }
     for which in WHICH {
         let mut bytes = fresh(call.lent());
@@ -341,8 +360,10 @@ pub fn check(calls: &Calls, sheet: &[u8], rust: &Rust, call: Call, extent: Exten
     }
     all_numbers_alike(calls, sheet, call, (&by_paper, &paper_bytes), extent).map_err(|what| differ(Between::Paper, what))?;
     let mut agreed = Agreed { number: by_paper[0], ..Agreed::default() };
-    if agreed.number == 0 {
-        region::alike(calls, sheet, rust, call, (by_paper[3], lent_part(&mut paper_bytes)), (extent, &mut agreed))?;
+    match agreed.number {
+        0 => region::alike(calls, sheet, rust, call, (by_paper[3], lent_part(&mut paper_bytes)), (extent, &mut agreed))?,
+        50 => agreed.ranges.refused(),
+        _ => {}
     }
     Ok(agreed)
 }
@@ -383,33 +404,35 @@ pub enum By {
     /// document 01, since the Rust has none
     Paper,
     Rust,
-    /// the Rust says that a base is not valid, document 02 why
-    RustAndReason,
-    /// document 02 says why a base is not valid, and the Rust has no answer
-    Reason,
+    /// the Rust says that a base is not valid, document 02 why; or the Rust says which multiples of a range are valid, document 02 what follows
+    RustAnd02,
+    /// document 02, and the Rust has no answer
+    Only02,
 }
 
 impl By {
     pub fn is_rust(self) -> bool {
-        matches!(self, By::Rust | By::RustAndReason)
+        matches!(self, By::Rust | By::RustAnd02)
     }
 
     fn of(call: Call, has_rust: bool, numbers: &Numbers) -> By {
-        let check = match call {
-            Call::BaseValid { .. } => numbers[3],
-            Call::RegionBaseValid { .. } => numbers[0],
-            _ => 0,
+        let is_of_02 = match call {
+            Call::BaseValid { .. } => numbers[3] > 1,
+            Call::RegionBaseValid { .. } => numbers[0] > 1,
+            Call::BaseRange { .. } => matches!(numbers[0], 0 | 50),
+            _ => false,
         };
-        match (has_rust, check) {
-            (false, 0 | 1) => By::Paper,
-            (true, 0 | 1) => By::Rust,
-            (true, _) => By::RustAndReason,
-            (false, _) => By::Reason,
+        match (has_rust, is_of_02) {
+            (false, false) => By::Paper,
+            (true, false) => By::Rust,
+            (true, true) => By::RustAnd02,
+            (false, true) => By::Only02,
         }
     }
 }
 
-/// The Rust's answer where it has one, which document 01's must agree with, else that of document 01; document 02's is why a base is not valid.
+/// The Rust's answer where it has one, which document 01's must agree with, else that of document 01; document 02's is why a base is not valid, and
+/// the answer over a range of bases.
 pub fn answer(sheet: &[u8], rust: &Rust, call: Call) -> Result<Answer, Difference> {
     let (mut lent, mut rust_lent) = (call.to_lend(), call.to_lend());
     let by_paper = call.by_paper(sheet, &mut lent);
@@ -456,6 +479,15 @@ pub fn plain_alike(sheet: &[u8], by_paper: &[u64]) -> Result<(), String> {
     let by_plain = plain::numbers(sheet);
     if by_plain != by_paper {
         return Err(format!("plain Rust says {by_plain:?}; document 01 says {by_paper:?}"));
+    }
+    Ok(())
+}
+
+/// Plain Rust gives the numbers of an answer over a range.
+fn range_alike(sheet: &[u8], (mask, region, lowest, highest): (u32, u64, u64, u64), by_paper: &Numbers) -> Result<(), String> {
+    let by_plain = ranges::by_plain(sheet, mask, region, (lowest, highest));
+    if by_plain != by_paper[..4] {
+        return Err(format!("plain Rust says {by_plain:?}; document 02 says {:?}", &by_paper[..4]));
     }
     Ok(())
 }

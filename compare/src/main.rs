@@ -16,6 +16,7 @@ mod places;
 mod plain;
 mod plan;
 mod random;
+mod ranges;
 mod record;
 mod region;
 mod run;
@@ -153,20 +154,23 @@ fn every_refusal(tally: &Tally) -> Result<(), String> {
     if !missing.is_empty() || !missing_with_rust.is_empty() {
         return Err(format!("refusals that were not met: {missing:?}, with the Rust: {missing_with_rust:?}"));
     }
-    println!("every refusal from 1 to 37 was met, and every one of the Rust's domain with the Rust");
+    println!("every refusal from 1 to 37 and 50 was met, and every one of the Rust's domain with the Rust");
     Ok(())
 }
 
-/// Random sheets among which every answer for each sort of alignments must be, and each combination of what is wrong with a base.
+/// Random sheets among which every answer for each sort of alignments must be, each combination of what is wrong with a base, and each sort of
+/// ranges.
 const ENOUGH: u64 = 100_000;
 
-/// Every answer for each sort of alignments was met, and every answer and each combination of faults of a base.
+/// Every answer for each sort of alignments was met, every answer and each combination of faults of a base, and every answer and each sort of ranges.
 fn every_answer(sort: &str, tally: &Tally) -> Result<(), String> {
-    let (alignments, bases) = (tally.alignments.missing(), tally.bases.missing());
-    if !alignments.is_empty() || !bases.is_empty() {
-        return Err(format!("{sort} sheets: of alignments these were not met: {alignments:?}, of bases: {bases:?}"));
+    let (alignments, bases, ranges) = (tally.alignments.missing(), tally.bases.missing(), tally.ranges.missing());
+    if !alignments.is_empty() || !bases.is_empty() || !ranges.is_empty() {
+        let missing = format!("of alignments these were not met: {alignments:?}, of bases: {bases:?}, of ranges: {ranges:?}");
+        return Err(format!("{sort} sheets: {missing}"));
     }
-    println!("{sort} sheets: every answer for each sort of alignments was met, and every answer and combination of faults of a base");
+    println!("{sort} sheets: every answer for each sort of alignments was met, every answer and combination of faults of a base,");
+    println!("  and every answer and sort of a range");
     Ok(())
 }
 

@@ -4,7 +4,7 @@ use crate::compare::{plain_alike, Call};
 use crate::random::Random;
 use crate::run::on_threads;
 use crate::sheet::{fields_length, hex, Image, Row};
-use crate::{generate, large, paper};
+use crate::{generate, large, paper, plan};
 use calls::Calls;
 use std::collections::BTreeMap;
 
@@ -26,6 +26,7 @@ struct Counts {
     accepted: u64,
     regions: u64,
     bases: u64,
+    ranges: u64,
     platform_swaps: u64,
     platform_swaps_differ: u64,
     area_swaps: u64,
@@ -39,6 +40,7 @@ impl Counts {
         self.accepted += other.accepted;
         self.regions += other.regions;
         self.bases += other.bases;
+        self.ranges += other.ranges;
         self.platform_swaps += other.platform_swaps;
         self.platform_swaps_differ += other.platform_swaps_differ;
         self.area_swaps += other.area_swaps;
@@ -54,8 +56,9 @@ pub fn run(calls: &Calls, seed: u64, cases: u64, threads: usize) -> Result<(), S
     }
     let c = &counts;
     println!(
-        "order: {} sheets reordered as demand 3 allows, {} of them accepted, {} of more than 1,024 directive rows, agree; {} paired regions, {} bases",
-        c.reordered, c.accepted, c.large, c.regions, c.bases
+        "order: {} sheets reordered as demand 3 allows, {} of them accepted, {} of more than 1,024 directive rows, agree;
+  {} paired regions, {} bases, {} ranges of bases",
+        c.reordered, c.accepted, c.large, c.regions, c.bases, c.ranges
     );
     println!("  two platforms of one mask swapped: {} times, the verdict differs {} times", c.platform_swaps, c.platform_swaps_differ);
     println!(
@@ -189,6 +192,7 @@ fn same_answers(calls: &Calls, random: &mut Random, r: &Reordered, counts: &mut 
                     return Err(format!("mask {mask}: regions {n} and {m} have other words"));
                 }
                 counts.bases += same_bases(calls, mask, (&a, n), (&b, m), &bases(random, &r.a.lists[1][i]))?;
+                counts.ranges += same_ranges(calls, mask, (&a, n), (&b, m), &ranges(random, &r.a.lists[1][i]))?;
             }
         }
     }
@@ -206,6 +210,19 @@ fn same_bases(calls: &Calls, mask: u32, a: (&[u8], usize), b: (&[u8], usize), ba
         }
     }
     Ok(bases.len() as u64)
+}
+
+/// The answers over ranges of bases of paired regions likewise. Gives the number of ranges.
+fn same_ranges(calls: &Calls, mask: u32, a: (&[u8], usize), b: (&[u8], usize), ranges: &[(u64, u64)]) -> Result<u64, String> {
+    for &(lowest, highest) in ranges {
+        let check = |(sheet, region): (&[u8], usize), which: u32| {
+            number(calls, sheet, Call::BaseRange { mask, region: region as u64, lowest, highest }, which)
+        };
+        if (0..4).any(|which| check(a, which) != check(b, which)) {
+            return Err(format!("mask {mask}: range {lowest:#x} to {highest:#x} of regions {} and {}", a.1, b.1));
+        }
+    }
+    Ok(ranges.len() as u64)
 }
 
 fn masks(random: &mut Random, image: &Image) -> Vec<u32> {
@@ -276,6 +293,13 @@ fn bases(random: &mut Random, row: &Row) -> [u64; 5] {
     let last = of("maximum").wrapping_sub(of("size"));
     let near = random.pick(&[of("minimum"), last]);
     [of("minimum"), last, near.wrapping_add(of("alignment")), near.wrapping_sub(of("alignment")), random.next()]
+}
+
+/// Ranges of bases of the region, and one of any ends.
+fn ranges(random: &mut Random, row: &Row) -> [(u64, u64); 3] {
+    let words = ["gpa", "size", "alignment", "minimum", "maximum", "flags", "vp", "vtl"].map(|name| row.get(name).unwrap());
+    let (one, other) = (random.next(), random.next());
+    [plan::some_range(random, Some(&words)), plan::some_range(random, Some(&words)), (one.min(other), one.max(other))]
 }
 
 // ---- what demand 3 does not allow

@@ -1,4 +1,4 @@
-//! Which queries are made of a sheet: masks, region numbers, bases, addresses and lent lengths, all of them at boundaries.
+//! Which queries are made of a sheet: masks, region numbers, bases, addresses, ranges of bases and lent lengths, all of them at boundaries.
 
 use crate::compare::Call;
 use crate::paper;
@@ -64,6 +64,46 @@ pub fn addresses(region: Option<&[u64; 8]>) -> Vec<u64> {
     vec![0, gpa.wrapping_sub(1), gpa, gpa.wrapping_add(1), end.wrapping_sub(1), end, end.wrapping_add(1), u64::MAX]
 }
 
+/// The highest multiple of an alignment below 2^64.
+fn highest_multiple(alignment: u64) -> u64 {
+    u64::MAX - u64::MAX.checked_rem(alignment).unwrap_or(0)
+}
+
+/// Every range of bases with both ends about the ends of what is valid, at 0, about the highest multiple or at 2^64 - 1, also from above down.
+fn ranges(region: Option<&[u64; 8]>) -> Vec<(u64, u64)> {
+    let Some(&[_, size, alignment, minimum, maximum, ..]) = region else { return vec![(0, u64::MAX), (1, 0)] };
+    let last = maximum.wrapping_sub(size);
+    let about_last = [last, last.wrapping_add(1), highest_multiple(alignment).wrapping_add(1), u64::MAX];
+    let mut ends = [0, minimum.wrapping_sub(1), minimum, minimum.saturating_add(alignment)].to_vec();
+    ends.extend(about_last);
+    ends.sort_unstable();
+    ends.dedup();
+    ends.iter().flat_map(|&lowest| ends.iter().map(move |&highest| (lowest, highest))).collect()
+}
+
+/// A range of bases: its ends about the ends of what is valid or about few multiples further on, at 0 or 2^64 - 1; one in sixteen is from above down.
+pub fn some_range(random: &mut Random, region: Option<&[u64; 8]>) -> (u64, u64) {
+    let Some(&[_, size, alignment, minimum, maximum, ..]) = region else { return random.pick(&ranges(None)) };
+    let known = bases(region);
+    let beside = |random: &mut Random| random.pick(&[0, 0, 0, 1, u64::MAX, alignment / 2, alignment.wrapping_sub(1), 0x1000]);
+    let steps = |random: &mut Random, most: usize| alignment.saturating_mul(random.below(most) as u64);
+    let place = random.pick(&[minimum, maximum.wrapping_sub(size), 0, highest_multiple(alignment)]);
+    let (lowest, highest) = match random.below(8) {
+        0 => (0, random.pick(&known)),
+        1 => (random.pick(&known), u64::MAX),
+        2 => (highest_multiple(alignment).wrapping_add(beside(random)), u64::MAX),
+        3 => (random.pick(&known), random.pick(&known)),
+        _ => {
+            let lowest = place.saturating_sub(steps(random, 4)).wrapping_add(beside(random));
+            (lowest, place.saturating_add(steps(random, 5)).wrapping_sub(beside(random)))
+        }
+    };
+    if random.one_in(16) {
+        return (lowest, highest);
+    }
+    (lowest.min(highest), lowest.max(highest))
+}
+
 /// Every query of every mask.
 pub fn all(sheet: &[u8]) -> Vec<Call> {
     let mut calls = Vec::new();
@@ -74,6 +114,7 @@ pub fn all(sheet: &[u8]) -> Vec<Call> {
             let words = found.words.get(region as usize);
             calls.extend(bases(words).into_iter().map(|base| Call::BaseValid { mask, region, base }));
             calls.extend(addresses(words).into_iter().map(|gpa| Call::Contains { mask, region, gpa }));
+            calls.extend(ranges(words).into_iter().map(|(lowest, highest)| Call::BaseRange { mask, region, lowest, highest }));
         }
     }
     calls
@@ -91,6 +132,8 @@ pub fn some(random: &mut Random, sheet: &[u8]) -> Vec<Call> {
         let words = found.words.get(region as usize);
         calls.push(Call::BaseValid { mask, region, base: random.pick(&bases(words)) });
         calls.push(Call::Contains { mask, region, gpa: random.pick(&addresses(words)) });
+        let (lowest, highest) = some_range(random, words);
+        calls.push(Call::BaseRange { mask, region, lowest, highest });
     }
     calls
 }
@@ -106,9 +149,13 @@ fn a_region(random: &mut Random, count: usize) -> u64 {
 /// One query of a refused sheet: whatever is asked, the answer is the verdict's refusal.
 pub fn one(random: &mut Random) -> Call {
     let mask = random.pick(&[0, 1, 2, 3, u32::MAX]);
-    match random.below(4) {
+    match random.below(5) {
         0 | 1 => Call::Relocations { mask, lent: random.pick(&[0, 7, 8, 64, 200]) },
         2 => Call::BaseValid { mask, region: random.pick(&[0, 1, u64::MAX]), base: random.pick(&[0, 0x1000]) },
-        _ => Call::Contains { mask, region: random.pick(&[0, 1, u64::MAX]), gpa: random.pick(&[0, 0x100000]) },
+        3 => Call::Contains { mask, region: random.pick(&[0, 1, u64::MAX]), gpa: random.pick(&[0, 0x100000]) },
+        _ => {
+            let (lowest, highest) = random.pick(&[(0, u64::MAX), (0x1000, 0x1000), (1, 0)]);
+            Call::BaseRange { mask, region: random.pick(&[0, 1, u64::MAX]), lowest, highest }
+        }
     }
 }

@@ -1,11 +1,15 @@
-//! A sample of answers for a replay without the Rust: `args`, `data/calls-1` and so on, and `stdout` of the program crates/replay.
-//! Every answer is the Rust's, or document 01's where the Rust has none, and why a base is not valid is document 02's; the library is not asked.
-//! Among them are few sheets of more than 1,024 directive rows, made for what they show.
+//! A sample of answers for a replay without the Rust: `args`, `data/calls-1` and so on, and `stdout` of the program crates/replay. Every answer is
+//! the Rust's, or document 01's where the Rust has none; why a base is not valid, and what follows over a range of bases, is document 02's. The
+//! library is not asked. Among them are few sheets of more than 1,024 directive rows, made for what they show.
 
 use crate::bases::{Bases, Faults};
 use crate::compare::{answer, to_lend, Answer, By, Call, Rust};
+use crate::generate::TOP;
 use crate::random::Random;
-use crate::sheet::hex;
+use crate::ranges::{self, Ranges};
+use crate::sheet::{hex, Image, Row};
+use crate::short::{native, vbs};
+use crate::tally::refusals;
 use crate::{caught, generate, large, paper, plan, region, shrink};
 use calls::Calls;
 use std::collections::BTreeMap;
@@ -35,11 +39,13 @@ struct Case {
 pub fn run(seed: u64, folder: &str, check: bool) -> Result<(), String> {
     let mut cases = sample(seed)?;
     cases.extend(region_bytes(seed)?);
+    cases.extend(range_cases()?);
     cases.extend(large_sheets()?);
     catch_wrong_copies(seed, &mut cases)?;
     cases.sort_by_key(|case| (case.number(), case.code()));
     every_refusal(&cases)?;
     every_base(&cases)?;
+    every_range(&cases)?;
     let files = files(&cases);
     let lines: String = cases.iter().map(Case::line).collect();
     let by_rust = cases.iter().filter(|case| case.answer.by.is_rust()).count();
@@ -98,12 +104,108 @@ fn region_bytes(seed: u64) -> Result<Vec<Case>, String> {
     cases.into_iter().collect()
 }
 
+/// An image with these regions, each with alignment, gpa, size, minimum and maximum, and a context.
+fn with_regions(regions: &[[u64; 5]]) -> Image {
+    let row = |&[alignment, gpa, size, minimum, maximum]: &[u64; 5]| Row::new(18, &[1, alignment, gpa, size, minimum, maximum, 0, 0, 0]);
+    Image::new(0, [vec![native()], regions.iter().map(row).collect(), vec![vbs(0, 1, 0)]])
+}
+
+/// A region, and ranges of its bases.
+type RangesOf = ([u64; 5], Vec<(u64, u64)>);
+
+/// The region of document 01's image B, and ones whose alignment is 0x3000, whose minimum is above the maximum or above maximum - size, whose maximum
+/// is the highest, and whose alignment is the highest power of two and the highest of all. Each with ranges of bases.
+fn ranges_of_regions() -> Vec<RangesOf> {
+    let (half, most) = (1 << 63, u64::MAX);
+    let b = vec![
+        (0, 0x1FE000),
+        (0, 0x1FEFFF),
+        (0, 0x1FF000),
+        (1, 0x1FF000),
+        (0x1FE000, 0x1FF000),
+        (0x1FE000, 0x1FE000),
+        (0x1FF000, 0x1FF000),
+        (0x1FE001, 0x1FEFFF),
+        (0x1FE001, 0x1FF000),
+        (0x1FF000, most),
+        (0, most),
+        (most, most),
+        (1, 0),
+        (most, 0),
+        (0x2000, 0x1000),
+    ];
+    let of_3000 = vec![
+        (0, 0x3000),
+        (0x1000, 0x3000),
+        (0x2FFF, 0x6000),
+        (0x3000, 0x8FFF),
+        (0x3001, 0x5FFF),
+        (0x4000, 0x5000),
+        (0x4000, 0x9000),
+        (0, 0xC000),
+        (0x2000, 0x7000),
+        (0x6000, 0x6000),
+        (0x9000, 0xF000),
+        (0, most),
+        (0x6000, 0x3000),
+    ];
+    let of_bounds = vec![(0, 0xF000), (0x4000, 0x8000), (0x3000, 0x3000), (0, most), (0x1000, 0x1FFF)];
+    let of_highest = vec![
+        (0, TOP - 0x2000),
+        (0, TOP - 0x1001),
+        (TOP - 0x2000, TOP - 0x1000),
+        (TOP - 0x1000, TOP - 0x1000),
+        (TOP, most),
+        (TOP + 1, most),
+        (0, most),
+    ];
+    let of_half = vec![(0, half - 1), (0, half), (1, half), (half, most), (1, half - 1), (half + 1, most), (0, most)];
+    let of_most = vec![(0, 0), (0, TOP), (1, TOP), (TOP + 1, most), (1, TOP - 1)];
+    vec![
+        ([0x1000, 0x100000, 0x2000, 0, 0x200000], b),
+        ([0x3000, 0x6000, 0x1000, 0x3000, 0x9000], of_3000),
+        ([0x1000, 0, 0x1000, 0x8000, 0x4000], of_bounds.clone()),
+        ([0x1000, 0, 0x3000, 0x3000, 0x4000], of_bounds.clone()),
+        ([0x1000, 0, 0x3000, 0, 0x2000], of_bounds),
+        ([0x1000, 0, 0x2000, 0, TOP], of_highest),
+        ([half, 0, 0x1000, 0, half], of_half),
+        ([TOP, 0, 0x1000, 0, TOP], of_most),
+    ]
+}
+
+/// Ranges of bases of one region; of two, whose rows stand in either order, each by its number in either; and refusals, of which 50 is the last.
+fn range_cases() -> Result<Vec<Case>, String> {
+    let mut cases = Vec::new();
+    let mut add = |image: &Image, mask: u32, region: u64, (lowest, highest): (u64, u64)| {
+        let (sheet, call) = (image.bytes(), Call::BaseRange { mask, region, lowest, highest });
+        cases.push(Case::new(&sheet, &Rust::of(&sheet), call));
+    };
+    let regions = ranges_of_regions();
+    for (region, of_region) in &regions {
+        of_region.iter().for_each(|&range| add(&with_regions(&[*region]), 1, 0, range));
+    }
+    let (b, of_3000) = (regions[0].0, regions[1].0);
+    for range in [(0, 0x6000), (0x3000, 0x8FFF), (0x9000, 0x1FE000)] {
+        for (number, order) in [[b, of_3000], [of_3000, b]].iter().enumerate() {
+            add(&with_regions(order), 1, number as u64, range);
+            add(&with_regions(order), 1, 1 - number as u64, range);
+        }
+    }
+    for (mask, number) in [(0, 0), (0, 1), (2, 0), (1, 1), (1, 1 << 32), (1, u64::MAX)] {
+        [(0, u64::MAX), (1, 0)].into_iter().for_each(|range| add(&with_regions(&[b]), mask, number, range));
+    }
+    add(&with_regions(&[]), 1, 0, (0, u64::MAX));
+    add(&with_regions(&[b, b]), 1, 0, (1, 0));
+    cases.into_iter().collect()
+}
+
 /// The verdict on sheets of many directive rows, and the queries of one of them.
 fn large_sheets() -> Result<Vec<Case>, String> {
     let queries = [
         Call::Relocations { mask: 1, lent: 64 },
         Call::BaseValid { mask: 1, region: 0, base: 0x3000 },
         Call::Contains { mask: 1, region: 0, gpa: 0x1800 },
+        Call::BaseRange { mask: 1, region: 0, lowest: 0x1001, highest: 0x3000 },
     ];
     let mut cases = Vec::new();
     for (image, number) in large::stored() {
@@ -143,8 +245,8 @@ fn catch_wrong_copies(seed: u64, cases: &mut Vec<Case>) -> Result<(), String> {
 }
 
 fn every_refusal(cases: &[Case]) -> Result<(), String> {
-    for number in 1..=37 {
-        let met = cases.iter().filter(|case| case.number() == number).count();
+    for number in refusals() {
+        let met = cases.iter().filter(|case| case.number() == number as u64).count();
         if met < LEAST {
             return Err(format!("record: refusal {number} is met {met} times"));
         }
@@ -169,9 +271,26 @@ fn every_base(cases: &[Case]) -> Result<(), String> {
     Ok(())
 }
 
-/// Cases of one sort: the call, the refusal's number, the count of regions (6 for more) or the answer of a check, what is wrong with a base, and whether the
-/// sheet is large.
-type Group = (u8, u64, u64, Option<Faults>, bool);
+/// Every answer and each sort of ranges of bases.
+fn every_range(cases: &[Case]) -> Result<(), String> {
+    let mut met = Ranges::default();
+    for case in cases.iter().filter(|case| case.code() == 6) {
+        match case.range() {
+            Some((words, range)) => met.met(&words, range, case.check(), case.answer.by.is_rust()),
+            None if case.number() == 50 => met.refused(),
+            None => {}
+        }
+    }
+    println!("  ranges of bases: {}", met.text());
+    if !met.missing().is_empty() {
+        return Err(format!("record: of ranges of bases these are not met: {:?}", met.missing()));
+    }
+    Ok(())
+}
+
+/// Cases of one sort: the call, the refusal's number, the count of regions (6 for more) or the answer of a check, what is wrong with a base, the sort
+/// of a range, and whether the sheet is large.
+type Group = (u8, u64, u64, Option<Faults>, Option<u32>, bool);
 
 #[derive(Default)]
 struct Sample {
@@ -190,7 +309,7 @@ impl Sample {
         self.offer(verdict);
         for call in queries {
             let case = Case::new(sheet, &rust, call)?;
-            if let Some(region) = case.region() {
+            if let Some(region) = case.region().filter(|_| call.by_words().is_by_words()) {
                 self.offer(Case::new(&region, &rust, call.by_words())?);
             }
             self.offer(case);
@@ -257,9 +376,22 @@ impl Case {
         }
     }
 
+    /// The words of the region that was checked over a range of bases, and its ends.
+    fn range(&self) -> Option<([u64; 8], (u64, u64))> {
+        match self.call {
+            Call::BaseRange { lowest, highest, .. } => Some((region::words(&self.region()?)?, (lowest, highest))),
+            _ => None,
+        }
+    }
+
     /// The words of the region that a check was made of.
     fn region(&self) -> Option<Vec<u8>> {
-        let (Call::BaseValid { mask, region, .. } | Call::Contains { mask, region, .. }) = self.call else { return None };
+        let (mask, region) = match self.call {
+            Call::BaseValid { mask, region, .. } | Call::Contains { mask, region, .. } | Call::BaseRange { mask, region, .. } => {
+                (mask, region)
+            }
+            _ => return None,
+        };
         let mut lent = [0; 64 * 64];
         paper::relocations(&self.sheet, mask, &mut lent);
         (self.number() == 0).then(|| lent[64 * region as usize..][..64].to_vec())
@@ -277,6 +409,7 @@ impl Case {
             Call::Contains { .. } => 3,
             Call::RegionBaseValid { .. } => 4,
             Call::RegionContains { .. } => 5,
+            Call::BaseRange { .. } => 6,
         }
     }
 
@@ -286,20 +419,23 @@ impl Case {
             _ => self.check().min(6),
         };
         let faults = self.base().filter(|_| !self.is_large()).map(|(words, base)| Faults::of(&words, base));
-        (self.code(), self.number(), found, faults, self.is_large())
+        let sort = self.range().filter(|_| !self.is_large()).map(|(words, range)| ranges::sort(&words, range, self.check()));
+        (self.code(), self.number(), found, faults, sort, self.is_large())
     }
 
     /// How many cases are taken of one group.
     fn room(&self) -> usize {
         match (self.is_large(), self.number(), self.call) {
+            (true, _, Call::BaseRange { .. }) => 0,
             (true, 0 | 31, _) => 2,
             (true, _, _) => 0,
             (_, 0, Call::Verdict) => 24,
             (_, 0, Call::Relocations { .. }) => 8,
             (_, _, Call::RegionContains { .. }) => 5,
             (_, 0, Call::BaseValid { .. } | Call::RegionBaseValid { .. }) if self.check() > 1 => 4,
+            (_, 0, Call::BaseRange { .. }) => 1,
             (_, 0, _) => 12,
-            (_, 35..=37, _) | (_, _, Call::Verdict) => 6,
+            (_, 35..=37 | 50, _) | (_, _, Call::Verdict) => 6,
             _ => 1,
         }
     }
@@ -309,8 +445,8 @@ impl Case {
         match (self.number(), self.call) {
             (_, Call::RegionContains { .. }) => 5,
             (0, Call::Contains { .. }) => 12,
-            (0, Call::BaseValid { .. } | Call::RegionBaseValid { .. }) => usize::MAX,
-            (35..=37, _) => 6,
+            (0, Call::BaseValid { .. } | Call::RegionBaseValid { .. } | Call::BaseRange { .. }) => usize::MAX,
+            (35..=37 | 50, _) => 6,
             _ if self.answer.numbers[1] == 0 => 4,
             _ => 2,
         }
@@ -321,25 +457,27 @@ impl Case {
         match self.answer.by {
             By::Paper => (0, "01"),
             By::Rust => (1, "rust"),
-            By::RustAndReason => (2, "rust 02"),
-            By::Reason => (3, "02"),
+            By::RustAnd02 => (2, "rust 02"),
+            By::Only02 => (3, "02"),
         }
     }
 
-    /// A head of 32 bytes, then the sheet or the region's bytes: call, who answered, two zero bytes, mask u32, region u64, base or gpa u64, lent bytes u32, how many
-    /// bytes follow u32.
+    /// A head of 40 bytes, then the sheet or the region's bytes: call, who answered, two zero bytes, mask u32, region u64, base, gpa or lowest base
+    /// u64, highest base u64, lent bytes u32, how many bytes follow u32.
     fn bytes(&self) -> Vec<u8> {
-        let (region, value, lent) = match self.call {
-            Call::Verdict => (0, 0, 0),
-            Call::Relocations { lent, .. } => (0, 0, lent),
-            Call::BaseValid { region, base, .. } => (region, base, 0),
-            Call::Contains { region, gpa, .. } => (region, gpa, 0),
-            Call::RegionBaseValid { base: value } | Call::RegionContains { gpa: value } => (0, value, 0),
+        let (region, value, highest, lent) = match self.call {
+            Call::Verdict => (0, 0, 0, 0),
+            Call::Relocations { lent, .. } => (0, 0, 0, lent),
+            Call::BaseValid { region, base, .. } => (region, base, 0, 0),
+            Call::Contains { region, gpa, .. } => (region, gpa, 0, 0),
+            Call::RegionBaseValid { base: value } | Call::RegionContains { gpa: value } => (0, value, 0, 0),
+            Call::BaseRange { region, lowest, highest, .. } => (region, lowest, highest, 0),
         };
         let mut bytes = vec![self.code(), self.answered().0, 0, 0];
         bytes.extend(self.call.mask().to_le_bytes());
         bytes.extend(region.to_le_bytes());
         bytes.extend(value.to_le_bytes());
+        bytes.extend(highest.to_le_bytes());
         bytes.extend((lent as u32).to_le_bytes());
         bytes.extend((self.sheet.len() as u32).to_le_bytes());
         bytes.extend(&self.sheet);
@@ -356,6 +494,9 @@ impl Case {
             Call::Contains { mask, region, gpa } => format!("contains mask {mask} region {region} gpa {gpa}"),
             Call::RegionBaseValid { base } => format!("region_base_valid base {base}"),
             Call::RegionContains { gpa } => format!("region_contains gpa {gpa}"),
+            Call::BaseRange { mask, region, lowest, highest } => {
+                format!("relocation_base_range mask {mask} region {region} lowest {lowest} highest {highest}")
+            }
         };
         let numbers: String = self.answer.numbers.iter().map(|number| format!(" {number}")).collect();
         let bytes: String = self.answer.lent.chunks(8).map(|group| format!(" {}", hex(group))).collect();

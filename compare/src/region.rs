@@ -5,7 +5,7 @@ use crate::alignments::{self, Alignments};
 use crate::bases::Bases;
 use crate::compare::{Agreed, Between, Call, Difference, Extent, Rust, Said};
 use crate::random::Random;
-use crate::{generate, paper, plan, short};
+use crate::{generate, paper, plan, ranges, short};
 use calls::Calls;
 use oracle::Relocated;
 
@@ -79,8 +79,8 @@ fn count_base((alignments, bases): (&mut Alignments, &mut Bases), region: &[u8],
 
 // ---- the regions of a sheet
 
-/// Of an accepted answer: every region of a list at a base and an address, or the region of a check. `found` is how many regions the list has, and their
-/// words. Counts the regions that were checked, and the alignments and the answers of those checked at a base.
+/// Of an accepted answer: every region of a list at a base, an address and a range of bases, or the region of a check. `found` is how many regions
+/// the list has, and their words. Counts the regions that were checked, the alignments and the answers of those checked at a base, and the ranges.
 pub fn alike(
     calls: &Calls,
     sheet: &[u8],
@@ -98,7 +98,7 @@ pub fn alike(
             }
             agreed.regions += found.0;
         }
-        Call::BaseValid { mask, region, .. } | Call::Contains { mask, region, .. } => {
+        Call::BaseValid { mask, region, .. } | Call::Contains { mask, region, .. } | Call::BaseRange { mask, region, .. } => {
             let mut lent = [0; 64 * 64];
             (calls.relocations)(sheet, mask, &mut lent, 0);
             same(calls, sheet, rust, call, &lent[64 * region as usize..][..64], agreed)?;
@@ -109,16 +109,21 @@ pub fn alike(
     Ok(())
 }
 
-/// A base and an address for a region of a list: others for the next region, and for another case.
-fn places(mask: u32, region: u64, bytes: &[u8], extent: Extent) -> [Call; 2] {
+/// A base, an address and a range of bases for a region of a list: others for the next region, and for another case.
+fn places(mask: u32, region: u64, bytes: &[u8], extent: Extent) -> [Call; 3] {
     let turn = Extent::Case(region.wrapping_add(extent.turn()));
     let words = words(bytes);
     let (base, gpa) = (turn.of(&plan::bases(words.as_ref()))[0], turn.of(&plan::addresses(words.as_ref()))[0]);
-    [Call::BaseValid { mask, region, base }, Call::Contains { mask, region, gpa }]
+    let (lowest, highest) = plan::some_range(&mut Random::new(turn.turn(), region), words.as_ref());
+    let (lowest, highest) = (lowest.min(highest), lowest.max(highest));
+    [Call::BaseValid { mask, region, base }, Call::Contains { mask, region, gpa }, Call::BaseRange { mask, region, lowest, highest }]
 }
 
 /// A check by the region's words says what it says by the sheet, and what the Rust says of its own region.
 fn same(calls: &Calls, sheet: &[u8], rust: &Rust, call: Call, region: &[u8], agreed: &mut Agreed) -> Result<(), Difference> {
+    if let Call::BaseRange { lowest, highest, .. } = call {
+        return same_range(calls, sheet, rust, (call, lowest, highest), region, agreed);
+    }
     let answer = check(calls, region, call.by_words())?;
     count_base((&mut agreed.alignments, &mut agreed.bases), region, call.by_words(), answer);
     let differ = |between: Between, what: String| Difference { sheet: sheet.to_vec(), call, what, between };
@@ -129,6 +134,42 @@ fn same(calls: &Calls, sheet: &[u8], rust: &Rust, call: Call, region: &[u8], agr
             return Err(differ(between, format!("by the region's words the answer is {answer}; {who} {other:?}")));
         }
     }
+    Ok(())
+}
+
+/// The answer over a range of bases, by the sheet, is what follows from the Rust's check of each multiple, from the check by words of each, and what
+/// document 02 says of the region's words. Where both of paper.rs's rules can be asked, they agree.
+fn same_range(
+    calls: &Calls,
+    sheet: &[u8],
+    rust: &Rust,
+    (call, lowest, highest): (Call, u64, u64),
+    region: &[u8],
+    agreed: &mut Agreed,
+) -> Result<(), Difference> {
+    let Some(words) = words(region) else { return Ok(()) };
+    let differ = |between: Between, what: String| Difference { sheet: sheet.to_vec(), call, what, between };
+    let (by_each, by_places) = (paper::by_each(&words, lowest, highest), paper::by_places(&words, lowest, highest));
+    if by_each.is_some_and(|answer| answer != by_places) {
+        return Err(differ(
+            Between::Plain,
+            format!("by trying each multiple document 02 says {by_each:?}, by those near four places {by_places}"),
+        ));
+    }
+    let answer = call.ask(calls, sheet, &mut [], 3);
+    let by_rust = rust.answer(call, &mut []).map_err(|message| differ(Between::Rust, message))?.map(|numbers| numbers[3]);
+    let by_words = ranges::by_words(&words, (lowest, highest), |base| (calls.region_base_valid)(region, base));
+    let others = [
+        (by_rust, Between::Rust, "from the Rust's check of each multiple follows"),
+        (by_words.map(Said::Number), Between::Paper, "from the check by words of each multiple follows"),
+        (Some(Said::Number(by_places)), Between::Paper, "document 02 says"),
+    ];
+    for (other, between, who) in others {
+        if let Some(other) = other.filter(|other| !other.is(answer)) {
+            return Err(differ(between, format!("over the range the answer is {answer}; {who} {other:?}")));
+        }
+    }
+    agreed.ranges.met(&words, (lowest, highest), answer, by_rust.is_some());
     Ok(())
 }
 

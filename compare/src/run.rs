@@ -46,6 +46,7 @@ impl<'a> Run<'a> {
             self.tally.regions += agreed.regions;
             self.tally.alignments.add(&agreed.alignments);
             self.tally.bases.add(&agreed.bases);
+            self.tally.ranges.add(&agreed.ranges);
         }
         Ok(())
     }

@@ -398,7 +398,7 @@ fn limits_of_areas(each: Each) -> bool {
 
 /// Every sheet that is asked of with the queries given.
 pub fn every_query(each: &mut dyn FnMut(&[u8], &[Call]) -> bool) -> bool {
-    every_base(each) && every_alignment(each)
+    every_base(each) && every_alignment(each) && every_range(each) && ranges_by_alignment(each)
 }
 
 /// Every alignment about a power of two: each of gpa, minimum and maximum at every address about its multiples, the others at a multiple; and every such base.
@@ -425,12 +425,14 @@ fn every_base(each: &mut dyn FnMut(&[u8], &[Call]) -> bool) -> bool {
     let (alignments, pages): (&[u64], &[u64]) = (&[0x1000, 0x2000, 0x3000], &[0, 1, 2, 3, 4, 6]);
     let places: Vec<u64> = (0..17).map(|n| 0x800 * n).chain([u64::MAX, TOP, TOP - 0x1000]).collect();
     let lengths = [0, 7, 8, 56, 63, 64, 65, 71, 72, 127, 128, 135];
+    let ranges = [(0, 0), (0, 0x1000), (0x1000, 0), (0, u64::MAX), (u64::MAX, 0), (1, 0), (0x1000, 0x1000)];
     let mut queries = Vec::new();
     for mask in 0..4 {
         queries.extend(lengths.map(|lent| Call::Relocations { mask, lent }));
         for region in 0..3 {
             queries.extend(places.iter().map(|&base| Call::BaseValid { mask, region, base }));
             queries.extend(places.iter().map(|&gpa| Call::Contains { mask, region, gpa }));
+            queries.extend(ranges.map(|(lowest, highest)| Call::BaseRange { mask, region, lowest, highest }));
         }
     }
     product(&[alignments, &[1, 2, 3], pages, pages, &[1, 2, 3]], &mut |v| {
@@ -439,5 +441,42 @@ fn every_base(each: &mut dyn FnMut(&[u8], &[Call]) -> bool) -> bool {
         let second = Row::new(18, &[1, 0x1000, 0, 0x1000, 0, 0x8000, 2, 0, 1]);
         let directives = vec![vbs(0, 3, 0), vbs(0, 1, 1)];
         each(&Image::new(0, [vec![native()], vec![first, second], directives]).bytes(), &queries)
+    })
+}
+
+/// Every range with these ends, also from above down, of region 0 of mask 1.
+fn ranges_of(ends: &[u64]) -> Vec<Call> {
+    let range = |lowest: u64, highest: u64| Call::BaseRange { mask: 1, region: 0, lowest, highest };
+    ends.iter().flat_map(|&lowest| ends.iter().map(move |&highest| range(lowest, highest))).collect()
+}
+
+/// A small region with every alignment, size, minimum and maximum of few pages, also a minimum above the maximum, and every range whose ends are
+/// about the first multiples, or the highest addresses.
+fn every_range(each: &mut dyn FnMut(&[u8], &[Call]) -> bool) -> bool {
+    let (alignments, multiples): (&[u64], &[u64]) = (&[0x1000, 0x2000, 0x3000], &[0, 1, 2, 3, 4, 6]);
+    product(&[alignments, &[1, 2, 3, 7], multiples, multiples], &mut |v| {
+        let [alignment, size, minimum, maximum] = [v[0], 0x1000 * v[1], v[0] * v[2], v[0] * v[3]];
+        let about = |times: u64| [(times * alignment).saturating_sub(1), times * alignment, times * alignment + alignment / 2];
+        let ends: Vec<u64> = (0..8).flat_map(about).skip(1).chain([TOP - 0x1000, TOP, u64::MAX]).collect();
+        let region = Row::new(18, &[1, alignment, 0x6000, size, minimum, maximum, 0, 0, 0]);
+        each(&Image::new(0, [vec![native()], vec![region], vec![vbs(0, 1, 0)]]).bytes(), &ranges_of(&ends))
+    })
+}
+
+/// Every alignment about a power of two with every range whose ends are about its multiples, of which the bounds are the first and the highest, the
+/// second and the highest, the highest but one twice, and the highest and the second: there the minimum is above the maximum.
+fn ranges_by_alignment(each: &mut dyn FnMut(&[u8], &[Call]) -> bool) -> bool {
+    alignments::every().into_iter().filter(|alignment| *alignment != 0 && alignment % 0x1000 == 0).all(|alignment| {
+        let highest = TOP - TOP % alignment;
+        let (second, before) = (alignment.min(highest), highest.saturating_sub(alignment));
+        let mut ends = alignments::addresses(alignment);
+        ends.extend([before, highest - 1, highest, highest.saturating_add(1), highest.saturating_add(alignment / 2), u64::MAX]);
+        ends.sort_unstable();
+        ends.dedup();
+        let queries = ranges_of(&ends);
+        [(0, highest), (second, highest), (before, before), (highest, second)].into_iter().all(|(minimum, maximum)| {
+            let region = Row::new(18, &[1, alignment, 0, 0x1000, minimum, maximum, 0, 0, 0]);
+            each(&Image::new(0, [vec![native()], vec![region], vec![vbs(0, 1, 0)]]).bytes(), &queries)
+        })
     })
 }

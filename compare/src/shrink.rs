@@ -129,12 +129,23 @@ fn calls_below(call: Call) -> Vec<Call> {
             let regions = smaller_values(region).into_iter().map(|region| Call::BaseValid { mask, region, base });
             masks.chain(regions).chain(smaller_values(base).into_iter().map(|base| Call::BaseValid { mask, region, base })).collect()
         }
+        Call::BaseRange { mask, region, lowest, highest } => ranges_below(mask, region, lowest, highest),
         Call::Contains { mask, region, gpa } => {
             let masks = smaller_values(u64::from(mask)).into_iter().map(|mask| Call::Contains { mask: mask as u32, region, gpa });
             let regions = smaller_values(region).into_iter().map(|region| Call::Contains { mask, region, gpa });
             masks.chain(regions).chain(smaller_values(gpa).into_iter().map(|gpa| Call::Contains { mask, region, gpa })).collect()
         }
     }
+}
+
+/// The range with a simpler end, region or mask.
+fn ranges_below(mask: u32, region: u64, lowest: u64, highest: u64) -> Vec<Call> {
+    let range = |mask: u32, region: u64, lowest: u64, highest: u64| Call::BaseRange { mask, region, lowest, highest };
+    let masks = smaller_values(u64::from(mask)).into_iter().map(|mask| range(mask as u32, region, lowest, highest));
+    let regions = smaller_values(region).into_iter().map(|region| range(mask, region, lowest, highest));
+    let lower = smaller_values(lowest).into_iter().map(|lowest| range(mask, region, lowest, highest));
+    let narrower = smaller_values(highest).into_iter().map(|highest| range(mask, region, lowest, highest));
+    masks.chain(regions).chain(lower).chain(narrower).collect()
 }
 
 /// The difference as text: what differs, the call, and the sheet or the region's words in hexadecimal digits.

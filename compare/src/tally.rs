@@ -2,9 +2,15 @@
 
 use crate::alignments::Alignments;
 use crate::bases::Bases;
+use crate::ranges::Ranges;
 
-/// Counts by refusal: 0 for accepted or answered, then 1 to 37.
-pub type Histogram = [u64; 38];
+/// Counts by refusal: 0 for accepted or answered, then the refusals. There is none from 38 to 49.
+pub type Histogram = [u64; 51];
+
+/// The refusals.
+pub fn refusals() -> impl Iterator<Item = usize> {
+    (1..38).chain([50])
+}
 
 #[derive(Clone)]
 pub struct Tally {
@@ -28,13 +34,15 @@ pub struct Tally {
     pub alignments: Alignments,
     /// base checks of regions, by answer and by what is wrong
     pub bases: Bases,
+    /// ranges of bases, by answer and by sort
+    pub ranges: Ranges,
     /// rows of kind 46 for which the Rust's error names X64VbsVpContext
     pub names_other_kind: u64,
 }
 
 impl Default for Tally {
     fn default() -> Self {
-        let none = [0; 38];
+        let none = [0; 51];
         Tally {
             cases: 0,
             with_rust: 0,
@@ -46,6 +54,7 @@ impl Default for Tally {
             regions: 0,
             alignments: Alignments::default(),
             bases: Bases::default(),
+            ranges: Ranges::default(),
             names_other_kind: 0,
         }
     }
@@ -58,8 +67,9 @@ impl Tally {
         self.regions += other.regions;
         self.alignments.add(&other.alignments);
         self.bases.add(&other.bases);
+        self.ranges.add(&other.ranges);
         self.names_other_kind += other.names_other_kind;
-        for number in 0..38 {
+        for number in 0..51 {
             self.verdicts[number] += other.verdicts[number];
             self.rust_verdicts[number] += other.rust_verdicts[number];
             self.large_verdicts[number] += other.large_verdicts[number];
@@ -68,9 +78,9 @@ impl Tally {
         }
     }
 
-    /// The refusals of 1 to 37 that no call met.
+    /// The refusals that no call met.
     pub fn missing(&self) -> Vec<usize> {
-        (1..38).filter(|&number| self.verdicts[number] + self.queries[number] == 0).collect()
+        refusals().filter(|&number| self.verdicts[number] + self.queries[number] == 0).collect()
     }
 
     /// The refusals of the Rust's domain (7 to 34 but 19, 27, 28) that no comparison with the Rust met.
@@ -84,13 +94,14 @@ impl Tally {
         let [large, areas] = [self.large_verdicts, self.areas_verdicts].map(|verdicts| verdicts.iter().sum::<u64>());
         println!("{large} readable ones have more than 1,024 directive rows, {areas} of them more than 1,024 areas of 1,024 and above");
         println!("{:>6} {:>12} {:>12} {:>12} {:>12} {:>12}", "number", "verdicts", "by the Rust", "1,025 rows", "1,025 areas", "queries");
-        for number in 0..38 {
+        for number in [0].into_iter().chain(refusals()) {
             let all = [&self.verdicts, &self.rust_verdicts, &self.large_verdicts, &self.areas_verdicts, &self.queries];
             println!("{number:>6} {}", all.map(|counts| format!("{:>12}", counts[number])).join(" "));
         }
         println!("{} regions were checked by their words too", self.regions);
         self.alignments.print();
         println!("bases: {}", self.bases.text());
+        println!("ranges of bases: {}", self.ranges.text());
         println!("the Rust named X64VbsVpContext for a row of kind 46: {} times", self.names_other_kind);
     }
 }
