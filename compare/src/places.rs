@@ -28,6 +28,9 @@ struct Placed {
     verdict_numbers: Option<unsafe extern "C" fn(*const u8, usize, *mut u8, usize) -> u64>,
     /// nor this
     region_base_valid: Option<unsafe extern "C" fn(*const u8, usize, u64) -> u64>,
+    relocation_base_valid: unsafe extern "C" fn(*const u8, usize, u32, u64, u64, u32) -> u64,
+    /// nor this
+    relocation_base_range: Option<unsafe extern "C" fn(*const u8, usize, u32, u64, u64, u64, u32) -> u64>,
 }
 
 impl Placed {
@@ -43,16 +46,20 @@ impl Placed {
             }
             let verdict = dlsym(handle, c"igvm_verdict".as_ptr());
             let relocations = dlsym(handle, c"igvm_relocations".as_ptr());
-            if verdict.is_null() || relocations.is_null() {
+            let relocation_base_valid = dlsym(handle, c"igvm_relocation_base_valid".as_ptr());
+            if verdict.is_null() || relocations.is_null() || relocation_base_valid.is_null() {
                 return Err(format!("{path} does not have the calls"));
             }
             let verdict_numbers = dlsym(handle, c"igvm_verdict_numbers".as_ptr());
             let region_base_valid = dlsym(handle, c"igvm_region_base_valid".as_ptr());
+            let relocation_base_range = dlsym(handle, c"igvm_relocation_base_range".as_ptr());
             Ok(Placed {
                 verdict: std::mem::transmute(verdict),
                 relocations: std::mem::transmute(relocations),
                 verdict_numbers: std::mem::transmute(verdict_numbers),
                 region_base_valid: std::mem::transmute(region_base_valid),
+                relocation_base_valid: std::mem::transmute(relocation_base_valid),
+                relocation_base_range: std::mem::transmute(relocation_base_range),
             })
         }
     }
@@ -62,24 +69,27 @@ impl Placed {
         match case.question {
             Question::Numbers => self.verdict_numbers.is_some(),
             Question::Bases(_) => self.region_base_valid.is_some(),
+            Question::Range => self.relocation_base_range.is_some(),
             Question::Loader => false,
-            Question::Accepted | Question::Refused(_) | Question::Relocations => true,
+            Question::Accepted | Question::Refused(_) | Question::Relocations | Question::Check => true,
         }
     }
 
     /// SAFETY: pointers and lengths are those of live slices.
     fn ask(&self, case: &Case, lent: &mut [u8]) -> u64 {
-        let sheet = black_box(&case.sheet[..]);
+        let (sheet, (region, base)) = (black_box(&case.sheet[..]), case.last);
         match case.question {
             Question::Relocations => unsafe { (self.relocations)(sheet.as_ptr(), sheet.len(), 1, lent.as_mut_ptr(), lent.len(), 0) },
             Question::Numbers => unsafe { self.verdict_numbers.expect("the call")(sheet.as_ptr(), sheet.len(), lent.as_mut_ptr(), 48) },
+            Question::Check => unsafe { (self.relocation_base_valid)(sheet.as_ptr(), sheet.len(), 1, region, base, 3) },
+            Question::Range => unsafe { self.relocation_base_range.expect("the call")(sheet.as_ptr(), sheet.len(), 1, region, 1, base, 3) },
             _ => unsafe { (self.verdict)(sheet.as_ptr(), sheet.len(), 0) },
         }
     }
 
     /// It answers as the case says. A build of other limits may refuse the image.
     fn answers(&self, case: &Case) -> bool {
-        case.has_bases() || self.ask(case, &mut [0; 64 * 64]) == case.number()
+        case.has_bases() || self.ask(case, &mut [0; 64 * 64]) == case.answer
     }
 
     /// Nanoseconds of a call, after one that is not measured.
@@ -90,8 +100,7 @@ impl Placed {
         }
         let mut lent = [0; 64 * 64];
         self.ask(case, &mut lent);
-        let number = case.number();
-        case.nanoseconds(time(vec![(); times], |()| assert_eq!(self.ask(case, &mut lent), number)), times)
+        case.nanoseconds(time(vec![(); times], |()| assert_eq!(self.ask(case, &mut lent), case.answer)), times)
     }
 }
 

@@ -2,10 +2,10 @@
 
 use crate::generate::TOP;
 use crate::memory::Sheet;
-use crate::region::by_plain;
+use crate::region::{by_plain, words};
 use crate::sheet::{Image, Row};
 use crate::short::{native, page_table, region, vbs};
-use crate::{loader, paper, plain};
+use crate::{loader, paper, plain, ranges};
 use calls::Calls;
 use oracle::{Headers, IgvmFile, Relocated};
 use std::hint::black_box;
@@ -51,15 +51,33 @@ pub enum Side {
     Alone,
     /// the library's verdict on the same bytes, one number
     Verdict,
+    /// the library's check of a base by the same sheet
+    Base,
 }
-use Side::{Alone, Bytes, Library, Plain, Ready, Verdict};
+use Side::{Alone, Base, Bytes, Library, Plain, Ready, Verdict};
 
-const SIDES: [(&str, Side); 6] =
-    [("library", Library), ("plain", Plain), ("rust", Ready), ("bytes", Bytes), ("alone", Alone), ("verdict", Verdict)];
+const SIDES: [(&str, Side); 7] =
+    [("library", Library), ("plain", Plain), ("rust", Ready), ("bytes", Bytes), ("alone", Alone), ("verdict", Verdict), ("base", Base)];
 
 /// The columns of a line behind the case's name.
-const COLUMNS: [&str; 14] =
-    ["rows", "bytes", "library", "per row", "plain", "ratio", "rust", "ratio", "from bytes", "ratio", "alone", "ratio", "verdict", "ratio"];
+const COLUMNS: [&str; 16] = [
+    "rows",
+    "bytes",
+    "library",
+    "per row",
+    "plain",
+    "ratio",
+    "rust",
+    "ratio",
+    "from bytes",
+    "ratio",
+    "alone",
+    "ratio",
+    "verdict",
+    "ratio",
+    "base",
+    "ratio",
+];
 
 /// What is asked of an image.
 #[derive(Clone, Copy, PartialEq, Eq)]
@@ -76,8 +94,12 @@ pub enum Question {
     Loader,
     /// the base check by the words of the one region, at bases from this one on
     Bases(u64),
+    /// the base check by the sheet, of the last region, at the highest base that is valid
+    Check,
+    /// the check by the sheet of a range of bases, of the last region, from 1 to that base
+    Range,
 }
-use Question::{Accepted, Bases, Loader, Numbers, Refused, Relocations};
+use Question::{Accepted, Bases, Check, Loader, Numbers, Range, Refused, Relocations};
 
 /// How many bases are checked at a time, since a check is as short as what it takes to measure one.
 const BASES: u64 = 64;
@@ -90,6 +112,10 @@ pub struct Case {
     /// the words of the first region of mask 1, if there is one
     region: [u8; 64],
     pub question: Question,
+    /// the number of the last region of mask 1, and the highest base of it that is valid
+    pub last: (u64, u64),
+    /// what the call returns
+    pub answer: u64,
 }
 
 pub fn run(calls: &Calls, settings: &Settings) -> Result<(), String> {
@@ -139,9 +165,19 @@ impl Case {
     fn new(name: String, image: &Image, question: Question) -> Case {
         let sheet = Sheet::of(&image.bytes());
         let headers = Headers::decode(&sheet).expect("a readable image");
-        let mut region = [0; 64];
-        paper::relocations(&sheet, 1, &mut region);
-        Case { name, sheet, headers, region, question }
+        let mut regions = [0; 64 * 64];
+        let count = paper::relocations(&sheet, 1, &mut regions)[3] as usize;
+        let region = |number: usize| -> [u8; 64] { std::array::from_fn(|at| regions[64 * number + at]) };
+        let last = count.saturating_sub(1);
+        let [_, size, _, _, maximum, ..] = words(&region(last)).expect("a region's bytes");
+        let last = (last as u64, maximum.saturating_sub(size));
+        let answer = match question {
+            Refused(number) => number,
+            Check => paper::relocation_base_valid(&sheet, 1, last.0, last.1)[3],
+            Range => paper::relocation_base_range(&sheet, 1, last.0, 1, last.1)[3],
+            Accepted | Numbers | Relocations | Loader | Bases(_) => 0,
+        };
+        Case { name, sheet, headers, region: region(0), question, last, answer }
     }
 
     /// Document 01 and the Rust accept the image, or refuse it, as the question says.
@@ -182,7 +218,7 @@ impl Case {
     pub fn number(&self) -> u64 {
         match self.question {
             Refused(number) => number,
-            Accepted | Numbers | Relocations | Loader | Bases(_) => 0,
+            Accepted | Numbers | Relocations | Loader | Bases(_) | Check | Range => 0,
         }
     }
 
@@ -199,14 +235,16 @@ impl Case {
     }
 
     /// `relocations` alone and the verdict for one number are no sides of that verdict, plain Rust has no region list, a loader starts from
-    /// headers, and bases are checked by a region's words.
+    /// headers, and bases are checked by a region's words. The Rust has no check of a range, and beside one stands the check of a base.
     pub fn has(&self, side: Side) -> bool {
         match side {
             Alone => self.question == Relocations,
-            Verdict => matches!(self.question, Numbers | Relocations),
-            Plain => !matches!(self.question, Relocations | Loader),
-            Bytes => !matches!(self.question, Loader | Bases(_)),
-            Library | Ready => true,
+            Verdict => matches!(self.question, Numbers | Relocations | Check | Range),
+            Base => self.question == Range,
+            Plain => !matches!(self.question, Relocations | Loader | Check),
+            Bytes => !matches!(self.question, Loader | Bases(_) | Range),
+            Ready => self.question != Range,
+            Library => true,
         }
     }
 
@@ -216,6 +254,8 @@ impl Case {
             Relocations => (calls.relocations)(sheet, 1, lent, 0),
             Numbers => (calls.verdict_numbers)(sheet, &mut lent[..48]),
             Accepted | Refused(_) => (calls.verdict)(sheet, 0),
+            Check => (calls.relocation_base_valid)(sheet, 1, self.last.0, self.last.1, 3),
+            Range => (calls.relocation_base_range)(sheet, 1, self.last.0, 1, self.last.1, 3),
             Loader | Bases(_) => unreachable!("more than one call"),
         }
     }
@@ -226,10 +266,22 @@ impl Case {
         answer
     }
 
+    /// The answer over the range by plain Rust.
+    fn plain_range(&self) -> [u64; 4] {
+        let numbers = ranges::by_plain(black_box(&self.sheet[..]), 1, self.last.0, (1, self.last.1));
+        assert_eq!(numbers[3], self.answer);
+        numbers
+    }
+
     /// The Rust's answer. The file is returned too, so that it is dropped later.
     fn rust(&self, headers: Headers) -> impl Sized {
         let file = new_file(headers);
-        let found = file.as_ref().ok().filter(|_| self.question == Relocations).map(|file| file.relocations(1));
+        let asks = matches!(self.question, Relocations | Check);
+        let found = file.as_ref().ok().filter(|_| asks).map(|file| file.relocations(1));
+        if self.question == Check {
+            let regions = found.as_ref().and_then(|found| found.0.as_ref()).expect("regions");
+            assert!(regions[self.last.0 as usize].relocation_base_valid(self.last.1));
+        }
         (file, found)
     }
 
@@ -242,12 +294,17 @@ impl Case {
             Library => {
                 let mut lent = [0; 64 * 64];
                 self.ask(calls, &mut lent);
-                time(vec![(); times], |()| assert_eq!(self.ask(calls, &mut lent), self.number()))
+                time(vec![(); times], |()| assert_eq!(self.ask(calls, &mut lent), self.answer))
             }
             Verdict => {
                 let sheet = black_box(&self.sheet[..]);
                 (calls.verdict)(sheet, 0);
                 time(vec![(); times], |()| assert_eq!((calls.verdict)(black_box(sheet), 0), self.number()))
+            }
+            Base => {
+                let (sheet, (region, base)) = (black_box(&self.sheet[..]), self.last);
+                (calls.relocation_base_valid)(sheet, 1, region, base, 3);
+                time(vec![(); times], |()| assert_eq!((calls.relocation_base_valid)(black_box(sheet), 1, region, base, 3), 1))
             }
             Plain | Ready | Bytes | Alone => self.peer(side, times),
         }
@@ -265,8 +322,12 @@ impl Case {
         match side {
             Plain if self.has_bases() => self.check_bases(by_plain, times),
             Ready if self.has_bases() => {
-                let region = Relocated::region(self.words()).expect("a region of the Rust");
+                let region = words(&self.region).and_then(Relocated::region).expect("a region of the Rust");
                 self.check_bases(|_, base| u64::from(black_box(&region).relocation_base_valid(base)), times)
+            }
+            Plain if self.question == Range => {
+                self.plain_range();
+                time(vec![(); times], |()| self.plain_range())
             }
             Plain => {
                 let _ = self.plain();
@@ -279,13 +340,8 @@ impl Case {
                 let file = new_file(self.headers.clone()).expect("an accepted image");
                 time(vec![(); times], |()| file.relocations(black_box(1)))
             }
-            Library | Verdict => unreachable!("the library has a call of its own"),
+            Library | Verdict | Base => unreachable!("the library has a call of its own"),
         }
-    }
-
-    /// The region's words.
-    fn words(&self) -> [u64; 8] {
-        std::array::from_fn(|word| u64::from_le_bytes(std::array::from_fn(|byte| self.region[8 * word + byte])))
     }
 
     /// All bases by this check, so many times, after once that is not measured. As many must be valid as document 01 says. Of the others the check may say why
@@ -315,7 +371,7 @@ impl Case {
         let column = |number: Option<f64>, digits: usize| number.map_or(format!("{:>11}", "-"), |n| format!("{n:>11.digits$}"));
         let mut line = format!("{:<24}{}{bytes:>11}", self.name, column(rows, 0));
         line += &(column(of(Library), self.digits()) + &column(of(Library).zip(rows).map(|(least, rows)| least / rows), 1));
-        for side in [Plain, Ready, Bytes, Alone, Verdict] {
+        for side in [Plain, Ready, Bytes, Alone, Verdict, Base] {
             let ratio = of(Library).zip(of(side)).map(|(library, other)| library / other);
             line += &(column(of(side), self.digits()) + &column(ratio, 2));
         }
@@ -374,6 +430,11 @@ fn each_case(each: &mut dyn FnMut(String, &dyn Fn(String) -> Case)) {
     }
     add("relocations-b".into(), Relocations, &b);
     add("numbers-b".into(), Numbers, &b);
+    add("check-b".into(), Check, &b);
+    add("check-64".into(), Check, &|| initializations(64));
+    add("range-b".into(), Range, &b);
+    add("range-64".into(), Range, &|| initializations(64));
+    add("range-0x3000".into(), Range, &|| aligned(64, 0x3000));
     for alignment in [0x1000, 0x20_0000, 0x4000_0000, 1 << 57, 0x3000, 0x5000, 0x60_0000] {
         add(format!("aligned-{}", named(alignment)), Accepted, &|| aligned(64, alignment));
     }
