@@ -360,9 +360,9 @@ pub fn check(calls: &Calls, sheet: &[u8], rust: &Rust, call: Call, extent: Exten
     }
     all_numbers_alike(calls, sheet, call, (&by_paper, &paper_bytes), extent).map_err(|what| differ(Between::Paper, what))?;
     let mut agreed = Agreed { number: by_paper[0], ..Agreed::default() };
-    match agreed.number {
-        0 => region::alike(calls, sheet, rust, call, (by_paper[3], lent_part(&mut paper_bytes)), (extent, &mut agreed))?,
-        50 => agreed.ranges.refused(),
+    match (agreed.number, call) {
+        (0, _) => region::alike(calls, sheet, rust, call, (by_paper[3], lent_part(&mut paper_bytes)), (extent, &mut agreed))?,
+        (number, Call::BaseRange { lowest, highest, .. }) if lowest > highest => agreed.ranges.refused(number),
         _ => {}
     }
     Ok(agreed)

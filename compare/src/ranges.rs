@@ -10,8 +10,8 @@ const NEVER: u64 = 2;
 const SOMETIMES: u64 = 3;
 
 /// The answers from 1 on; 50; how many multiples a range has, and with how many it is always or never; which of its ends are multiples; then what
-/// else must be met of ranges, of their multiples and of regions.
-const COLUMNS: [&str; 30] = [
+/// else must be met of ranges, of their multiples and of regions; and the refusals that come before 50.
+const COLUMNS: [&str; 33] = [
     "always",
     "never",
     "sometimes",
@@ -42,10 +42,14 @@ const COLUMNS: [&str; 30] = [
     "another that is no power of two",
     "alignment 2^63",
     "from the Rust's check of each multiple",
+    "the verdict's refusal before 50",
+    "35 before 50",
+    "36 before 50",
 ];
 
 const REFUSED: usize = 3;
 const BY_RUST: usize = 29;
+const BEFORE: usize = 30;
 
 /// The columns that tell ranges of one sort from others: how many multiples, which ends, and which of the multiples are valid.
 const SORT: [usize; 15] = [4, 5, 6, 7, 8, 9, 10, 11, 12, 13, 18, 19, 20, 21, 22];
@@ -93,6 +97,9 @@ fn columns(&[_, size, alignment, minimum, maximum, ..]: &[u64; 8], lowest: u64, 
         alignment != 0x3000 && !alignment.is_power_of_two(),
         alignment == 1 << 63,
         false,
+        false,
+        false,
+        false,
     ]
 }
 
@@ -103,8 +110,14 @@ pub fn sort(words: &[u64; 8], (lowest, highest): (u64, u64), answer: u64) -> u32
 }
 
 /// How often each was met.
-#[derive(Clone, Copy, Default)]
+#[derive(Clone, Copy)]
 pub struct Ranges([u64; COLUMNS.len()]);
+
+impl Default for Ranges {
+    fn default() -> Self {
+        Ranges([0; COLUMNS.len()])
+    }
+}
 
 impl Ranges {
     /// A range of bases of a region with these words, the answer, from 1 to 3, and whether it followed from the Rust's check of each multiple too.
@@ -114,9 +127,15 @@ impl Ranges {
         self.0.iter_mut().zip(columns).for_each(|(count, holds)| *count += u64::from(holds));
     }
 
-    /// A range that 50 refuses.
-    pub fn refused(&mut self) {
-        self.0[REFUSED] += 1;
+    /// The refusal of a range whose lowest base is above the highest: 50, or one that comes before it.
+    pub fn refused(&mut self, number: u64) {
+        let column = match number {
+            50 => REFUSED,
+            36 => BEFORE + 2,
+            35 => BEFORE + 1,
+            _ => BEFORE,
+        };
+        self.0[column] += 1;
     }
 
     pub fn add(&mut self, other: &Ranges) {

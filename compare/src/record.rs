@@ -275,10 +275,10 @@ fn every_base(cases: &[Case]) -> Result<(), String> {
 fn every_range(cases: &[Case]) -> Result<(), String> {
     let mut met = Ranges::default();
     for case in cases.iter().filter(|case| case.code() == 6) {
-        match case.range() {
-            Some((words, range)) => met.met(&words, range, case.check(), case.answer.by.is_rust()),
-            None if case.number() == 50 => met.refused(),
-            None => {}
+        match (case.range(), case.call) {
+            (Some((words, range)), _) => met.met(&words, range, case.check(), case.answer.by.is_rust()),
+            (None, Call::BaseRange { lowest, highest, .. }) if lowest > highest => met.refused(case.number()),
+            _ => {}
         }
     }
     println!("  ranges of bases: {}", met.text());
