@@ -169,8 +169,9 @@ impl Case {
         let count = paper::relocations(&sheet, 1, &mut regions)[3] as usize;
         let region = |number: usize| -> [u8; 64] { std::array::from_fn(|at| regions[64 * number + at]) };
         let last = count.saturating_sub(1);
-        let [_, size, _, _, maximum, ..] = words(&region(last)).expect("a region's bytes");
-        let last = (last as u64, maximum.saturating_sub(size));
+        let [_, size, alignment, _, maximum, ..] = words(&region(last)).expect("a region's bytes");
+        let top = maximum.saturating_sub(size);
+        let last = (last as u64, top - top.checked_rem(alignment).unwrap_or(0));
         let answer = match question {
             Refused(number) => number,
             Check => paper::relocation_base_valid(&sheet, 1, last.0, last.1)[3],
