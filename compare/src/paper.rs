@@ -491,13 +491,14 @@ fn over(words: &Words, bases: impl Iterator<Item = u64>) -> u64 {
     }
 }
 
-/// So many multiples of a range are tried, each of them.
+/// The most multiples of a range that are tried, each of them.
 const TRIED: u64 = 4096;
 
 /// The answer over a range by trying each multiple, if there are no more than are tried.
 pub fn by_each(words: &Words, lowest: u64, highest: u64) -> Option<u64> {
     let alignment = words[2];
-    (highest.saturating_sub(lowest) / alignment < TRIED).then(|| over(words, multiples(alignment, lowest, highest)))
+    let count = (highest / alignment + 1).saturating_sub(lowest.div_ceil(alignment));
+    (count <= TRIED).then(|| over(words, multiples(alignment, lowest, highest)))
 }
 
 /// The answer over a range by the multiples near its two ends, the minimum and maximum - size, a few on either side of each. No other need be tried:
