@@ -24,11 +24,11 @@ const RTLD_NOW: c_int = 2;
 struct Placed {
     verdict: unsafe extern "C" fn(*const u8, usize, u32) -> u64,
     relocations: unsafe extern "C" fn(*const u8, usize, u32, *mut u8, usize, u32) -> u64,
+    relocation_base_valid: unsafe extern "C" fn(*const u8, usize, u32, u64, u64, u32) -> u64,
     /// an older build may not have it
     verdict_numbers: Option<unsafe extern "C" fn(*const u8, usize, *mut u8, usize) -> u64>,
     /// nor this
     region_base_valid: Option<unsafe extern "C" fn(*const u8, usize, u64) -> u64>,
-    relocation_base_valid: unsafe extern "C" fn(*const u8, usize, u32, u64, u64, u32) -> u64,
     /// nor this
     relocation_base_range: Option<unsafe extern "C" fn(*const u8, usize, u32, u64, u64, u64, u32) -> u64>,
 }
@@ -56,9 +56,9 @@ impl Placed {
             Ok(Placed {
                 verdict: std::mem::transmute(verdict),
                 relocations: std::mem::transmute(relocations),
+                relocation_base_valid: std::mem::transmute(relocation_base_valid),
                 verdict_numbers: std::mem::transmute(verdict_numbers),
                 region_base_valid: std::mem::transmute(region_base_valid),
-                relocation_base_valid: std::mem::transmute(relocation_base_valid),
                 relocation_base_range: std::mem::transmute(relocation_base_range),
             })
         }

@@ -81,7 +81,7 @@ fn ranges(region: Option<&[u64; 8]>) -> Vec<(u64, u64)> {
     ends.iter().flat_map(|&lowest| ends.iter().map(move |&highest| (lowest, highest))).collect()
 }
 
-/// A range of bases: its ends about the ends of what is valid or about few multiples further on, at 0 or 2^64 - 1; one in sixteen is from above down.
+/// A range of bases: its ends about the ends of what is valid or about few multiples further on, at 0 or 2^64 - 1. One in sixteen may be from above down.
 pub fn some_range(random: &mut Random, region: Option<&[u64; 8]>) -> (u64, u64) {
     let Some(&[_, size, alignment, minimum, maximum, ..]) = region else { return random.pick(&ranges(None)) };
     let known = bases(region);
