@@ -179,7 +179,7 @@ fn as_adapted(row: &mut Row) {
 mod host {
     use super::made;
     use crate::random::Random;
-    use crate::{paper, plan};
+    use crate::{paper, plan, ranges};
     use oracle::{IgvmRelocatableRegion, Relocated};
     use sapyullu::{BaseCheck, List, PageTableRegion, Place, Refusal};
 
@@ -217,7 +217,7 @@ mod host {
         Some(Place { list, index: (row - 1 - before) as usize })
     }
 
-    /// The regions word for word, the page table, and of each region the checks at a base and an address. Gives 1, for one list.
+    /// The regions word for word, the page table, and of each region the checks at a base, an address and over a range of bases. Gives 1, for one list.
     pub fn same_list(random: &mut Random, sheet: &[u8], mask: u32, found: &Relocated) -> Result<u64, String> {
         let list = sapyullu::relocations(sheet, mask).map_err(|refusal| format!("sapyullu::relocations, mask {mask}: {refusal}"))?;
         let regions: Vec<[u64; 8]> = list.regions.iter().map(|region| Relocated::words(&made::relocatable_region(region))).collect();
@@ -230,6 +230,7 @@ mod host {
         }
         for (number, (region, other)) in list.regions.iter().zip(&found.regions).enumerate() {
             let what = same_region(random, (sheet, mask, number as u64), region, other);
+            let what = what.and_then(|()| same_range(random, (sheet, mask, number as u64), other));
             what.map_err(|what| format!("mask {mask}, region {number}: {what}"))?;
         }
         Ok(1)
@@ -253,6 +254,23 @@ mod host {
         if !checks.iter().all(same) || contained != [Ok(by_rust.1); 2] {
             let said = format!("base {base:#x}: {checks:?}, address {gpa:#x}: {contained:?}");
             return Err(format!("{said}; the Rust says {by_rust:?}, document 02 {number}"));
+        }
+        Ok(())
+    }
+
+    /// A range of bases of a region gets document 02's number and what follows from the Rust's check of each multiple, or is refused by 50.
+    fn same_range(random: &mut Random, (sheet, mask, number): (&[u8], u32, u64), other: &IgvmRelocatableRegion) -> Result<(), String> {
+        let (lowest, highest) = plan::some_range(random, Some(&Relocated::words(other)));
+        let range = sapyullu::relocation_base_range(sheet, mask, number, lowest, highest);
+        let by_rust = ranges::by_rust(other, (lowest, highest)).filter(|_| lowest <= highest);
+        let by_paper = paper::relocation_base_range(sheet, mask, number, lowest, highest);
+        let numbers = match &range {
+            Ok(range) => [0, 0, 0, range.number()],
+            Err(refusal) => [refusal.error.number(), refusal.row.unwrap_or(0), refusal.detail, 0],
+        };
+        if numbers != by_paper || by_rust.is_some_and(|answer| answer != numbers[3]) {
+            let said = format!("bases from {lowest:#x} to {highest:#x}: {range:?}");
+            return Err(format!("{said}; from the Rust's checks follows {by_rust:?}, document 02 says {by_paper:?}"));
         }
         Ok(())
     }
