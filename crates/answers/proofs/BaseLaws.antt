@@ -1,10 +1,10 @@
 -- The base check of a sheet: valid is what it was, and the number is 0 exactly in a refusal.
-use Rattle.rows.{proofs.Kit.{_≡_, refl, _∙_, Bool, true, false, cond, eqb, ltb, ltb-true, not-false, List, Option, none, some, ℕ, _<_, inl, inr}, proofs.Bools.which}
-use Rattle.igvm_defs.{specs.Refusals.{noFault, isRefusal, inRow}, proofs.RefusalLaws.row-refusal}
+use Rattle.rows.{proofs.Kit.{_≡_, refl, _∙_, Bool, true, false, cond, eqb, List, Option, none, some, ℕ, inl, inr}, proofs.Bools.which}
+use Rattle.igvm_defs.specs.Refusals.{isRefusal}
 use Rattle.sheet.specs.Head.{Limits}
 use Rattle.addresses.proofs.BaseCheckLaws.{valid-same, valid-number, no-number-zero}
-use Rattle.rules.{specs.declared.IgvmRelocatableRegion.IgvmRelocatableRegion, specs.Relocations.{regionAt, relocationBaseValid, relocationBaseCheck}, proofs.FaultLaws.{refuse-none, else-none}}
-use Rattle.answers.specs.{Verdict.verdictRefusal, Relocations.{sheetInitializations, maskFault, regionFault, checkRefusal, testRegion, checkOf, answerFor, answerOf, baseNumber, baseCheckOf}}
+use Rattle.rules.{specs.declared.IgvmRelocatableRegion.IgvmRelocatableRegion, specs.Relocations.{regionAt, relocationBaseValid, relocationBaseCheck}}
+use Rattle.answers.specs.Relocations.{sheetInitializations, checkRefusal, testRegion, checkOf, answerFor, answerOf, baseNumber, baseCheckOf}
 use Rattle.answers.proofs.AnswerLaws.{region-there, check-says}
 
 -- ---- of one region

@@ -1,6 +1,6 @@
 -- A base known only as a range, of a sheet: one base answers as the base check, a range within a range stays always or never, and the number is 0 exactly in a refusal.
-use Rattle.rows.{proofs.Kit.{_≡_, refl, sym, ap, _∙_, Bool, true, false, cond, false≢true, eqb, ltb, ltb-false, le-ltb, List, Option, none, some, ℕ, suc, _≤_, arith, inl, inr}, proofs.Bools.{which, or-false-parts}}
-use Rattle.igvm_defs.{specs.declared.Refusal.Refusal, specs.Refusals.{noFault, noRefusal, isFault, isRefusal, inRow, orElse}, proofs.RefusalLaws.{row-refusal, else-refusal, orElse-first, orElse-later, no-fault-row}}
+use Rattle.rows.{proofs.Kit.{_≡_, refl, sym, ap, _∙_, true, false, cond, eqb, ltb, ltb-false, le-ltb, List, Option, none, some, ℕ, suc, _≤_, arith, inl, inr}, proofs.Bools.which}
+use Rattle.igvm_defs.{specs.declared.Refusal.Refusal, specs.Refusals.{noFault, isFault, isRefusal}, proofs.RefusalLaws.{row-refusal, orElse-first, orElse-later, no-fault-row}}
 use Rattle.sheet.specs.Head.{Limits}
 use Rattle.addresses.{specs.declared.BaseCheck.BaseCheck, specs.declared.BaseCheck.the-variants.{Valid, Unaligned, BelowMinimum, AboveMaximum}, specs.BaseChecks.{checkNumber, isValid}}
 use Rattle.base_ranges.{specs.declared.BaseRange.the-variants.{Always, Never}, specs.BaseRanges.{isMultipleIn, baseRange, rangeNumber}}

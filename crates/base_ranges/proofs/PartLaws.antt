@@ -1,5 +1,5 @@
 -- The tests of the code, on parts of the range, agree with trying each multiple.
-use Rattle.rows.{proofs.Kit.{ℕ, _+_, _-_, _≤_, _<_, _≡_, refl, sym, ap, _∙_, Bool, true, false, cond, not, _&&_, _||_, leb, ltb, leb-true, le-leb, lt-leb, ltb-true, ltb-false, lt-ltb, le-ltb, not-true, decLt, arith}, proofs.Bools.{not-both, is-false, same-test, and-parts, and-both, or-left, or-right, or-cases}}
+use Rattle.rows.{proofs.Kit.{ℕ, _+_, _-_, _≤_, _<_, _≡_, refl, sym, ap, _∙_, Bool, true, false, cond, not, _&&_, leb, ltb, leb-true, le-leb, lt-leb, ltb-true, ltb-false, lt-ltb, le-ltb, not-true, decLt, arith}, proofs.Bools.{not-both, is-false, same-test}}
 use Rattle.addresses.{specs.Addresses.isMultiple, specs.declared.BaseCheck.BaseCheck, specs.declared.BaseCheck.the-variants.{Valid, Unaligned, BelowMinimum, AboveMaximum}, specs.BaseChecks.{baseCheck, isValid}}
 use Rattle.addresses.proofs.BaseCheckLaws as check
 use Rattle.base_ranges.specs.{declared.BaseRange.BaseRange, declared.BaseRange.the-variants.{Always, Never, Sometimes}, BaseRanges.{anyMultiple, isMultipleIn, rangeOf, baseRange, InRange}, Nearest.{multipleTo, higher, lower}}

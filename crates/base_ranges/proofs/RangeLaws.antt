@@ -1,7 +1,7 @@
 -- A range of bases: each answer is given exactly where what it says is true, the numbers tell the answers apart, and how the answers on two ranges go together.
-use Rattle.rows.{proofs.Kit.{ℕ, _+_, _≤_, _<_, _≡_, refl, sym, ap, _∙_, _↔_, inl, inr, Bool, true, false, cond, not, _&&_, and-false, false≢true, eqb, leb, ltb, leb-true, le-leb, le-antisymm, arith}, proofs.Bools.{not-both, is-false, which, and-parts}, proofs.BelowLaws.{any-below, some-below}}
+use Rattle.rows.{proofs.Kit.{ℕ, _+_, _≤_, _≡_, refl, sym, ap, _∙_, _↔_, Bool, true, false, cond, not, _&&_, and-false, false≢true, eqb, leb, ltb, leb-true, le-leb, le-antisymm, arith}, proofs.Bools.{not-both, is-false, and-parts}, proofs.BelowLaws.{any-below, some-below}}
 use Rattle.addresses.{specs.Addresses.isMultiple, specs.declared.BaseCheck.the-variants.{Valid, Unaligned, BelowMinimum, AboveMaximum}, specs.BaseChecks.{baseCheck, isValid}}
-use Rattle.base_ranges.specs.{declared.BaseRange.BaseRange, declared.BaseRange.the-variants.{Always, Never, Sometimes}, BaseRanges.{anyMultiple, isMultipleIn, allMultiples, rangeOf, baseRange, rangeNumber, InRange, Says}}
+use Rattle.base_ranges.specs.{declared.BaseRange.BaseRange, declared.BaseRange.the-variants.{Always, Never, Sometimes}, BaseRanges.{anyMultiple, isMultipleIn, rangeOf, baseRange, rangeNumber, InRange, Says}}
 
 -- ---- the numbers
 

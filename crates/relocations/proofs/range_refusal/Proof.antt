@@ -1,4 +1,4 @@
-use Rattle.rows.proofs.Kit.{_≡_, ap, sym, _∙_, now, needs}
+use Rattle.rows.proofs.Kit.{ap, sym, _∙_, now, needs}
 use Rattle.igvm_defs.specs.Refusals.{inRow}
 use Rattle.sheet.specs.Head.{limits}
 use Rattle.answers.specs.BaseRanges.{rangeFault}

@@ -1,4 +1,4 @@
-use Rattle.rows.proofs.Kit.{_≡_, sym, _∙_, true, false, not-true, not-false, now, needs}
+use Rattle.rows.proofs.Kit.{_≡_, sym, _∙_, false, not-true, not-false, now, needs}
 use Rattle.igvm_defs.specs.Refusals.{isRefusal}
 use Rattle.sheet.{specs.Head.limits, proofs.Readable.readable-bounds, specs.Read.Readable}
 use Rattle.answers.specs.BaseRanges.{rangeRefusal, baseRangeNumber, baseRangeOf}
