@@ -28,7 +28,7 @@ KINDS |= {kind: (2, 8, True) for kind in range(34, 44)}
 KINDS |= {44: (2, 17, True), 45: (2, 14, False), 46: (2, 6, False), 47: (2, 5, False), 48: (2, 5, False)}
 KINDS |= {49: (2, 6, False), 50: (2, 16, True), 51: (2, 16, True), 52: (2, 4, False), 53: (2, 4, False)}
 
-# The refusals there are. 38 to 49 are those of requests that are not done.
+# The refusals there are. 38 to 49 are left to later requests.
 REFUSALS = (*range(1, 38), 50)
 
 LIMITS = (16, 64, 8192)
