@@ -3,7 +3,7 @@ use Rattle.rows.{proofs.Kit.{_≡_, refl, sym, ap, _∙_, true, false, cond, eq
 use Rattle.igvm_defs.{specs.declared.Refusal.Refusal, specs.Refusals.{noFault, isFault, isRefusal}, proofs.RefusalLaws.{row-refusal, orElse-first, orElse-later, no-fault-row}}
 use Rattle.sheet.specs.Head.{Limits}
 use Rattle.addresses.{specs.declared.BaseCheck.BaseCheck, specs.declared.BaseCheck.the-variants.{Valid, Unaligned, BelowMinimum, AboveMaximum}, specs.BaseChecks.{checkNumber, isValid}}
-use Rattle.base_ranges.{specs.declared.BaseRange.the-variants.{Always, Never}, specs.BaseRanges.{isMultipleIn, baseRange, rangeNumber}}
+use Rattle.base_ranges.{specs.declared.BaseRange.the-variants.{Always, Never}, specs.BaseRanges.{hasMultiple, baseRange, rangeNumber}}
 use Rattle.base_ranges.proofs.RangeLaws as range
 use Rattle.rules.{specs.declared.IgvmRelocatableRegion.IgvmRelocatableRegion, specs.Relocations.{regionAt, relocationBaseCheck}, proofs.FaultLaws.{refuse-none, else-none}}
 use Rattle.answers.specs.{declared.Answered.Answered, Relocations.{sheetInitializations, checkRefusal, answerFor, answerOf, baseNumber, baseCheckOf}, BaseRanges.{rangeFault, rangeRefusal, relocationBaseRange, baseRangeNumber, baseRangeOf}}
@@ -11,7 +11,6 @@ use Rattle.answers.proofs.AnswerLaws.{region-there, check-says}
 
 -- ---- the refusal
 
--- 50 alone is left where a check of the region is not refused
 module _ (l : Limits) (s : List ℕ) (given region : ℕ) where
   -- a lowest base that is not above the highest is refused as a check is
   in-order : (lowest highest : ℕ) → lowest ≤ highest → rangeRefusal l s given region lowest highest ≡ checkRefusal l s given region
@@ -22,7 +21,7 @@ module _ (l : Limits) (s : List ℕ) (given region : ℕ) where
         | inr e ↦ orElse-later _ _ e ∙ no-fault-row 0 _ (rw (le-ltb highest lowest h)) ∙ sym (check-says l s given region e .3)
       ]
 
-  -- what is not refused
+  -- a range that is not refused: the check of the region is not, and the lowest base is not above the highest
   pub range-says : (lowest highest : ℕ) → isRefusal (rangeRefusal l s given region lowest highest) ≡ false
       → (isRefusal (checkRefusal l s given region) ≡ false) × (lowest ≤ highest)
   unfolding rangeRefusal rangeFault
@@ -124,7 +123,7 @@ module _ (l : Limits) (s : List ℕ) (given region : ℕ) where
         (record { passed = g .passed; of = g .of; there = g .there; said = ap rangeNumber (range.within-never _ lowest highest from to _ low high n) })
 
     -- and so does one that is always, where it has a multiple of the region's alignment
-    pub within-always : ((r : IgvmRelocatableRegion) → regionHere ≡ some r → isMultipleIn (r .«relocation_alignment») from to ≡ true)
+    pub within-always : ((r : IgvmRelocatableRegion) → regionHere ≡ some r → hasMultiple (r .«relocation_alignment») from to ≡ true)
         → baseRangeOf l s given region lowest highest .answer ≡ 1 → baseRangeOf l s given region from to .answer ≡ 1
     unfolding baseRange
     within-always m h =

@@ -2,7 +2,7 @@
 use Rattle.rows.{proofs.Kit.{ℕ, _+_, _-_, _≤_, _<_, _≡_, refl, sym, ap, _∙_, Bool, true, false, cond, not, _&&_, leb, ltb, leb-true, le-leb, lt-leb, ltb-true, ltb-false, lt-ltb, le-ltb, not-true, decLt, arith}, proofs.Bools.{not-both, is-false, same-test}}
 use Rattle.addresses.{specs.Addresses.isMultiple, specs.declared.BaseCheck.BaseCheck, specs.declared.BaseCheck.the-variants.{Valid, Unaligned, BelowMinimum, AboveMaximum}, specs.BaseChecks.{baseCheck, isValid}}
 use Rattle.addresses.proofs.BaseCheckLaws as check
-use Rattle.base_ranges.specs.{declared.BaseRange.BaseRange, declared.BaseRange.the-variants.{Always, Never, Sometimes}, BaseRanges.{anyMultiple, isMultipleIn, rangeOf, baseRange, InRange}, Nearest.{multipleTo, higher, lower}}
+use Rattle.base_ranges.specs.{declared.BaseRange.BaseRange, declared.BaseRange.the-variants.{Always, Never, Sometimes}, BaseRanges.{anyMultiple, hasMultiple, rangeOf, baseRange, InRange}, Nearest.{multipleTo, higher, lower}}
 use Rattle.base_ranges.proofs.{RangeLaws.{any-says, says-any, none-says, says-none, exactly}, NearestLaws.{to-multiple, to-below, to-highest}}
 
 -- ---- parts of a range
@@ -22,9 +22,9 @@ lower-says a b =
     ]
 
 -- there is a multiple where the last one up to the end is not below the start
-pub there : (a lo hi : ℕ) → leb lo (multipleTo hi a) ≡ isMultipleIn a lo hi
+pub there : (a lo hi : ℕ) → leb lo (multipleTo hi a) ≡ hasMultiple a lo hi
 there a lo hi =
-    same-test (leb lo (multipleTo hi a)) (isMultipleIn a lo hi)
+    same-test (leb lo (multipleTo hi a)) (hasMultiple a lo hi)
     (λ h. says-any a lo hi (λ _. true) (multipleTo hi a) (record { from = leb-true lo (multipleTo hi a) h; to = to-below hi a; multiple = to-multiple hi a }) refl)
     (λ h.
     let (b, i, _) = any-says a lo hi (λ _. true) h in
@@ -34,15 +34,15 @@ there a lo hi =
 
 -- a part of the range is all that passes
 part : (a lo hi from to : ℕ) (p : ℕ → Bool) → ((base : ℕ) → InRange a from to base → InRange a lo hi base × (p base ≡ true))
-    → ((base : ℕ) → InRange a lo hi base → p base ≡ true → InRange a from to base) → isMultipleIn a from to ≡ anyMultiple a lo hi p
+    → ((base : ℕ) → InRange a lo hi base → p base ≡ true → InRange a from to base) → hasMultiple a from to ≡ anyMultiple a lo hi p
 part a lo hi from to p inside all =
-    same-test (isMultipleIn a from to) (anyMultiple a lo hi p)
+    same-test (hasMultiple a from to) (anyMultiple a lo hi p)
     (λ h. let (b, i, _) = any-says a from to (λ _. true) h in let (j, q) = inside b i in says-any a lo hi p b j q)
     (λ h. let (b, i, q) = any-says a lo hi p h in says-any a from to (λ _. true) b (all b i q) refl)
 
 -- ---- below the minimum
 
-pub below : (a min lo hi : ℕ) → lo < min → isMultipleIn a lo (lower hi (min - 1)) ≡ anyMultiple a lo hi (λ base. ltb base min)
+pub below : (a min lo hi : ℕ) → lo < min → hasMultiple a lo (lower hi (min - 1)) ≡ anyMultiple a lo hi (λ base. ltb base min)
 below a min lo hi l =
     let (p, q, most) = lower-says hi (min - 1) in
     part a lo hi lo (lower hi (min - 1)) (λ base. ltb base min)
@@ -91,7 +91,7 @@ module _ (a s min max : ℕ) where
       only AboveMaximum h = not-both refl h
 
   module _ (lo hi : ℕ) where
-    pub valid-part : s ≤ max → isMultipleIn a (higher lo min) (lower hi (max - s)) ≡ anyMultiple a lo hi valid
+    pub valid-part : s ≤ max → hasMultiple a (higher lo min) (lower hi (max - s)) ≡ anyMultiple a lo hi valid
     valid-part l =
         let (p, q, least) = higher-says lo min in
         let (u, v, most) = lower-says hi (max - s) in

@@ -1,7 +1,7 @@
 -- A range of bases: each answer is given exactly where what it says is true, the numbers tell the answers apart, and how the answers on two ranges go together.
 use Rattle.rows.{proofs.Kit.{ℕ, _+_, _≤_, _≡_, refl, sym, ap, _∙_, _↔_, Bool, true, false, cond, not, _&&_, and-false, false≢true, eqb, leb, ltb, leb-true, le-leb, le-antisymm, arith}, proofs.Bools.{not-both, is-false, and-parts}, proofs.BelowLaws.{any-below, some-below}}
 use Rattle.addresses.{specs.Addresses.isMultiple, specs.declared.BaseCheck.the-variants.{Valid, Unaligned, BelowMinimum, AboveMaximum}, specs.BaseChecks.{baseCheck, isValid}}
-use Rattle.base_ranges.specs.{declared.BaseRange.BaseRange, declared.BaseRange.the-variants.{Always, Never, Sometimes}, BaseRanges.{anyMultiple, isMultipleIn, rangeOf, baseRange, rangeNumber, InRange, Says}}
+use Rattle.base_ranges.specs.{declared.BaseRange.BaseRange, declared.BaseRange.the-variants.{Always, Never, Sometimes}, BaseRanges.{anyMultiple, hasMultiple, rangeOf, baseRange, rangeNumber, InRange, Says}}
 
 -- ---- the numbers
 
@@ -67,7 +67,7 @@ module _ (a lo hi : ℕ) (p : ℕ → Bool) where
   unfolding rangeOf
   says = go _ _ _ refl refl refl
     where
-      go : (t f v : Bool) → isMultipleIn a lo hi ≡ t → anyMultiple a lo hi fails ≡ f → anyMultiple a lo hi p ≡ v
+      go : (t f v : Bool) → hasMultiple a lo hi ≡ t → anyMultiple a lo hi fails ≡ f → anyMultiple a lo hi p ≡ v
           → Says a lo hi p (cond (t && not f) Always (cond (not v) Never Sometimes))
       go true false v e f g =
           let (b, i, _) = any-says a lo hi (λ _. true) e in
@@ -85,13 +85,13 @@ module _ (a lo hi : ℕ) (p : ℕ → Bool) where
       rw (says-any a lo hi (λ _. true) b i refl, says-none a lo hi fails (λ base i. rw (all base i)))
   told Never none = rw (says-none a lo hi p none) (go _ _ refl refl)
     where
-      go : (t f : Bool) → isMultipleIn a lo hi ≡ t → anyMultiple a lo hi fails ≡ f → cond (t && not f) Always Never ≡ Never
+      go : (t f : Bool) → hasMultiple a lo hi ≡ t → anyMultiple a lo hi fails ≡ f → cond (t && not f) Always Never ≡ Never
       go true true e f = refl
       go true false e f =
           let (b, i, _) = any-says a lo hi (λ _. true) e in
           not-both (none b i) (passing b (none-says a lo hi fails f b i))
       go false f e h = refl
-  told Sometimes ((b, i, q), (c, j, r)) = rw (says-any a lo hi p b i q, says-any a lo hi fails c j (rw r), and-false (isMultipleIn a lo hi))
+  told Sometimes ((b, i, q), (c, j, r)) = rw (says-any a lo hi p b i q, says-any a lo hi fails c j (rw r), and-false (hasMultiple a lo hi))
 
   -- an answer is given exactly where what it says is true
   pub exactly : (k : BaseRange) → (rangeOf a lo hi p ≡ k) ↔ Says a lo hi p k
@@ -122,7 +122,7 @@ module _ (a lo hi from to : ℕ) (p : ℕ → Bool) (low : lo ≤ from) (high : 
   within-never h = exactly a from to p Never .1 (λ base i. exactly a lo hi p Never .0 h base (wider base i))
 
   -- and always stays always where there is a multiple
-  pub within-always : rangeOf a lo hi p ≡ Always → isMultipleIn a from to ≡ true → rangeOf a from to p ≡ Always
+  pub within-always : rangeOf a lo hi p ≡ Always → hasMultiple a from to ≡ true → rangeOf a from to p ≡ Always
   within-always h m =
       let (b, i, _) = any-says a from to (λ _. true) m in
       exactly a from to p Always .1 ((b, i), λ base i. exactly a lo hi p Always .0 h .1 base (wider base i))

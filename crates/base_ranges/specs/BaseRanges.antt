@@ -13,9 +13,9 @@ use Rattle.base_ranges.specs.declared.BaseRange.the-variants.{Always, Ne
 unfoldable pub anyMultiple : ℕ → ℕ → ℕ → (ℕ → Bool) → Bool
 anyMultiple alignment lowest highest p = anyBelow (highest + 1) (λ base. leb lowest base && isMultiple base alignment && p base)
 
--- there is one
-abbrev pub isMultipleIn : ℕ → ℕ → ℕ → Bool
-isMultipleIn alignment lowest highest = anyMultiple alignment lowest highest (λ _. true)
+-- there is a multiple in the range
+abbrev pub hasMultiple : ℕ → ℕ → ℕ → Bool
+hasMultiple alignment lowest highest = anyMultiple alignment lowest highest (λ _. true)
 
 -- all pass
 abbrev pub allMultiples : ℕ → ℕ → ℕ → (ℕ → Bool) → Bool
@@ -24,7 +24,7 @@ allMultiples alignment lowest highest p = not (anyMultiple alignment lowest high
 -- always if there is one and all pass, never if none passes, else sometimes
 unfoldable pub rangeOf : ℕ → ℕ → ℕ → (ℕ → Bool) → BaseRange
 rangeOf alignment lowest highest p =
-    cond (isMultipleIn alignment lowest highest && allMultiples alignment lowest highest p) Always
+    cond (hasMultiple alignment lowest highest && allMultiples alignment lowest highest p) Always
     (cond (not (anyMultiple alignment lowest highest p)) Never
     Sometimes)
 

@@ -2,7 +2,7 @@
 ghost use mathlib.Core.Path.{_≡_};
 ghost use lib.Dec.{ltb};
 ghost use Rattle.addresses.specs.BaseChecks.{baseCheck, isValid};
-ghost use Rattle.base_ranges.specs.BaseRanges.{anyMultiple, isMultipleIn, baseRange, rangeNumber};
+ghost use Rattle.base_ranges.specs.BaseRanges.{anyMultiple, hasMultiple, baseRange, rangeNumber};
 ghost use Rattle.base_ranges.specs.Nearest.{multipleTo, higher, lower};
 
 pub enum BaseRange {
@@ -55,8 +55,8 @@ fn multiple_to(x: u64, a: u64) -> u64
 }
 
 // There is a multiple of the alignment from one address to another, ends included.
-fn is_multiple_in(alignment: u64, lowest: u64, highest: u64) -> bool
-    ensures { λ r. ⌜ r ≡ isMultipleIn alignment lowest highest ⌝ }
+fn has_multiple(alignment: u64, lowest: u64, highest: u64) -> bool
+    ensures { λ r. ⌜ r ≡ hasMultiple alignment lowest highest ⌝ }
 {
     lowest <= multiple_to(highest, alignment)
 }
@@ -66,7 +66,7 @@ fn any_below(alignment: u64, minimum: u64, lowest: u64, highest: u64) -> bool
     ensures { λ r. ⌜ r ≡ anyMultiple alignment lowest highest (λ base. ltb base minimum) ⌝ }
 {
     if lowest < minimum {
-        return is_multiple_in(alignment, lowest, lower(highest, minimum - 1));
+        return has_multiple(alignment, lowest, lower(highest, minimum - 1));
     }
     false
 }
@@ -85,7 +85,7 @@ fn any_valid(
     if maximum < size {
         return false;
     }
-    is_multiple_in(
+    has_multiple(
         alignment,
         higher(lowest, minimum),
         lower(highest, maximum - size),

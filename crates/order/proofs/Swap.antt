@@ -11,9 +11,9 @@ use Rattle.initialization_header.specs.Initializations.{initializationOf}
 use Rattle.directive_header.{specs.Directives.directiveOf, specs.Fields.areaNamed}
 use Rattle.sheet_headers.specs.Headers.{sheetHeaders}
 use Rattle.rules.{specs.Regions.{regionPasses, tablesShare, overlap}, specs.Platforms.{validatePlatform, sameType, ownPlatformFault, platformFault, lastIsCca}, specs.Initializations.{validateRegion, validateTable, bitWithoutCca, initializationFault}, specs.Directives.{wrongContextArch, allocates, inserts, isAllocated, badArea, ownDirectiveFault, directiveFault, noContext}, specs.Verdict.{noPlatform, noMatchingVpContext, platformsRefusal, initializationsRefusal, directivesRefusal, headersRefusal}}
-use Rattle.answers.{proofs.AnswerLaws.accepted-readable, specs.Verdict.verdictRefusal, specs.Relocations.{relocationsOf, wordsAfter}}
+use Rattle.answers.{proofs.AnswerLaws.accepted-readable, specs.Verdict.verdictRefusal, specs.Relocations.{relocationsOf, wordsAfter}, specs.BaseRanges.baseRangeOf}
 use Rattle.order.specs.{Sheets.{sheetA, sheetB}, Reordered.Reordered, Demand.{Accepted, SameAnswers}}
-use Rattle.order.proofs.{Pairings.{alike, exchanged}, Theorem.demand-3}
+use Rattle.order.proofs.{Pairings.{alike, exchanged}, Theorem.{demand-3, same-ranges}}
 
 -- the two platforms have two masks; the context names no area
 pub reordered : Reordered sheetA sheetB
@@ -48,3 +48,9 @@ pub words-same : (x y : List ℕ) → length x / 8 ≡ length y / 8 → isRefusa
     → leAt 8 (wordsAfter limits sheetA 1 x) (64 * 0 + 8 * k) ≡ leAt 8 (wordsAfter limits sheetB 1 y) (64 * 1 + 8 * k)
 unfolding sheetA sheetB reordered headOf rowKind rowLength offsetOf bodyOf kindOf spans fields leAt sumBelow sheetHeaders initializationOf matches
 words-same = swapped .words accepted-A 1 0 (record { below = omega arith; relocatable = refl })
+
+-- and is said to be movable over every range of bases alike
+pub ranges-same : (lowest highest : ℕ) → baseRangeOf limits sheetA 1 0 lowest highest ≡ baseRangeOf limits sheetB 1 1 lowest highest
+unfolding sheetA sheetB reordered headOf rowKind rowLength offsetOf bodyOf kindOf spans fields leAt sumBelow sheetHeaders initializationOf matches
+ranges-same =
+    same-ranges limits sheetA sheetB (accepted-readable limits sheetA accepted-A) reordered accepted-A 1 0 (record { below = omega arith; relocatable = refl })

@@ -7,7 +7,7 @@ returns c =
     let d = c .before in
     let e = d .before in
     let g = e .before .args in
-    rw (c .is-multiple-in .ensures, d .lower .ensures) (below (g .alignment) (g .minimum) (g .lowest) (g .highest) (e .if1 .taken))
+    rw (c .has-multiple .ensures, d .lower .ensures) (below (g .alignment) (g .minimum) (g .lowest) (g .highest) (e .if1 .taken))
 
 returns-2 : tie.Need-returns-2
 returns-2 c = let g = c .before .args in sym (none-below (g .alignment) (g .minimum) (g .lowest) (g .highest) (c .if1 .left))

@@ -10,7 +10,7 @@ returns-2 c =
     let d = c .before in
     let e = d .before in
     let g = e .before .before .args in
-    rw (c .is-multiple-in .ensures, d .lower .ensures, e .higher .ensures)
+    rw (c .has-multiple .ensures, d .lower .ensures, e .higher .ensures)
     (valid-part (g .alignment) (g .size) (g .minimum) (g .maximum) (g .lowest) (g .highest) (e .before .if1 .left))
 
 pub any-valid-spec : {M : Type 1} → statement M
