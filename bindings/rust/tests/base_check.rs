@@ -2,26 +2,14 @@
 
 mod common;
 
-use common::image_b;
+use common::{bounded_region, image_b};
 use sapyullu::BaseCheck::{AboveMaximum, BelowMinimum, Unaligned, Valid};
 use sapyullu::*;
 
 /// What the sheet of image B, its region's minimum and maximum being these, says of the base, and the region's words too. Its alignment is 0x1000, its size
 /// 0x2000.
 fn check(minimum: u64, maximum: u64, base: u64) -> BaseCheck {
-    let region = IgvmInitializationHeader::RelocatableRegion {
-        compatibility_mask: 1,
-        relocation_alignment: 0x1000,
-        relocation_region_gpa: 0x10_0000,
-        relocation_region_size: 0x2000,
-        minimum_relocation_gpa: minimum,
-        maximum_relocation_gpa: maximum,
-        is_vtl2: false,
-        apply_rip_offset: false,
-        apply_gdtr_offset: false,
-        vp_index: 0,
-        vtl: Vtl::Vtl0,
-    };
+    let region = bounded_region(0x1000, 0x10_0000, 0x2000, minimum, maximum);
     let sheet = Sheet { initialization_headers: vec![region], ..image_b() }.bytes().unwrap();
     let by_sheet = relocation_base_valid(&sheet, 1, 0, base).unwrap();
     assert_eq!(relocations(&sheet, 1).unwrap().regions[0].relocation_base_valid(base), by_sheet, "by the words");

@@ -2,7 +2,7 @@
 
 mod common;
 
-use common::{image_b, image_with, region};
+use common::{bounded_region, image_b, image_with, region};
 use sapyullu::BaseRange::{Always, Never, Sometimes};
 use sapyullu::*;
 
@@ -11,20 +11,7 @@ const TOP: u64 = 0xFFFF_FFFF_FFFF_F000;
 
 /// The sheet of image B, whose region has this alignment, size, minimum and maximum. It lies at 0, which is a multiple of every alignment.
 fn sheet(alignment: u64, size: u64, minimum: u64, maximum: u64) -> Vec<u8> {
-    let region = IgvmInitializationHeader::RelocatableRegion {
-        compatibility_mask: 1,
-        relocation_alignment: alignment,
-        relocation_region_gpa: 0,
-        relocation_region_size: size,
-        minimum_relocation_gpa: minimum,
-        maximum_relocation_gpa: maximum,
-        is_vtl2: false,
-        apply_rip_offset: false,
-        apply_gdtr_offset: false,
-        vp_index: 0,
-        vtl: Vtl::Vtl0,
-    };
-    image_with(region).bytes().unwrap()
+    image_with(bounded_region(alignment, 0, size, minimum, maximum)).bytes().unwrap()
 }
 
 /// What the sheet says of the range, for region 0 of mask 1.

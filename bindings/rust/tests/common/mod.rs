@@ -24,13 +24,18 @@ pub fn image_with(region: IgvmInitializationHeader) -> Sheet {
 
 /// The region of image B with this gpa and size.
 pub fn region(gpa: u64, size: u64) -> IgvmInitializationHeader {
+    bounded_region(0x1000, gpa, size, 0, 0x20_0000)
+}
+
+/// The region of image B with this alignment, gpa, size, minimum and maximum.
+pub fn bounded_region(alignment: u64, gpa: u64, size: u64, minimum: u64, maximum: u64) -> IgvmInitializationHeader {
     IgvmInitializationHeader::RelocatableRegion {
         compatibility_mask: 1,
-        relocation_alignment: 0x1000,
+        relocation_alignment: alignment,
         relocation_region_gpa: gpa,
         relocation_region_size: size,
-        minimum_relocation_gpa: 0,
-        maximum_relocation_gpa: 0x20_0000,
+        minimum_relocation_gpa: minimum,
+        maximum_relocation_gpa: maximum,
         is_vtl2: false,
         apply_rip_offset: false,
         apply_gdtr_offset: false,
