@@ -5,7 +5,11 @@ use Rattle.sheet.{specs.Head.Limits, specs.Read.{Readable, sheetRefusal}, proof
 use Rattle.masks.specs.Masks.{matches}
 use Rattle.initialization_header.{specs.declared.IgvmInitializationHeader.IgvmInitializationHeader, specs.Fields.{initializationFields, kindNumber}}
 use Rattle.rules.{specs.declared.PageTableRegion.PageTableRegion, specs.Relocations.{isRelocatable, relocatableOf, regionCount, regionAt}, specs.Options.then, proofs.FaultLaws.{refuse-none, else-none}}
-use Rattle.answers.specs.{Verdict.verdictRefusal, Relocations.{sheetInitializations, maskFault, wordsFault, relocationsRefusal, foundOf, regionFault, checkRefusal}}
+use Rattle.answers.specs.{declared.Answered.Answered, Verdict.verdictRefusal, Relocations.{sheetInitializations, maskFault, wordsFault, relocationsRefusal, foundOf, regionFault, checkRefusal}}
+
+-- a named answer, by its refusal and its number
+abbrev pub answered : Refusal → ℕ → Answered
+answered refusal answer = record { refusal = refusal; answer = answer }
 
 -- an accepted sheet is readable
 pub accepted-readable : (l : Limits) (s : List ℕ) → isRefusal (verdictRefusal l s) ≡ false → Readable l s

@@ -1,13 +1,13 @@
 -- A base known only as a range, of a sheet: one base answers as the base check, a range within a range stays always or never, and the number is 0 exactly in a refusal.
 use Rattle.rows.{proofs.Kit.{_≡_, refl, sym, ap, _∙_, true, false, cond, eqb, ltb, ltb-false, le-ltb, List, Option, none, some, ℕ, suc, _≤_, arith, inl, inr}, proofs.Bools.which}
-use Rattle.igvm_defs.{specs.declared.Refusal.Refusal, specs.Refusals.{noFault, isFault, isRefusal}, proofs.RefusalLaws.{row-refusal, orElse-first, orElse-later, no-fault-row}}
+use Rattle.igvm_defs.{specs.Refusals.{noFault, isFault, isRefusal}, proofs.RefusalLaws.{row-refusal, orElse-first, orElse-later, no-fault-row}}
 use Rattle.sheet.specs.Head.{Limits}
 use Rattle.addresses.{specs.declared.BaseCheck.BaseCheck, specs.declared.BaseCheck.the-variants.{Valid, Unaligned, BelowMinimum, AboveMaximum}, specs.BaseChecks.{checkNumber, isValid}}
 use Rattle.base_ranges.{specs.declared.BaseRange.the-variants.{Always, Never}, specs.BaseRanges.{hasMultiple, baseRange, rangeNumber}}
 use Rattle.base_ranges.proofs.RangeLaws as range
 use Rattle.rules.{specs.declared.IgvmRelocatableRegion.IgvmRelocatableRegion, specs.Relocations.{regionAt, relocationBaseCheck}, proofs.FaultLaws.{refuse-none, else-none}}
 use Rattle.answers.specs.{declared.Answered.Answered, Relocations.{sheetInitializations, checkRefusal, answerFor, answerOf, baseNumber, baseCheckOf}, BaseRanges.{rangeFault, rangeRefusal, relocationBaseRange, baseRangeNumber, baseRangeOf}}
-use Rattle.answers.proofs.AnswerLaws.{region-there, check-says}
+use Rattle.answers.proofs.AnswerLaws.{answered, region-there, check-says}
 
 -- ---- the refusal
 
@@ -42,9 +42,6 @@ one-of-region base r =
     go AboveMaximum = refl
 
 -- ---- of a sheet
-
-abbrev answered : Refusal → ℕ → Answered
-answered refusal answer = record { refusal = refusal; answer = answer }
 
 -- what is said of a range of one base, where this is said of the base: always (1) where it is valid (1), never (2) where it is turned down, and a refusal where it is refused
 abbrev pub ofOne : Answered → Answered

@@ -109,18 +109,17 @@ module _ (a s min max : ℕ) where
 
     -- ---- the answer
 
-    -- one that is below the minimum, or ends above the maximum, is not valid
-    not-least : anyMultiple a lo hi (λ base. ltb base min) ≡ true → (base : ℕ) × InRange a lo hi base × (valid base ≡ false)
-    not-least h =
-        let (c, i, q) = any-says a lo hi (λ base. ltb base min) h in
-        let u = ltb-true c min q in
-        (c, i, is-false (valid c) (λ h. let (m, x, y) = valid-says c h in absurd (omega arith)))
+    -- one that passes a test which no valid base passes
+    not-valid : (q : ℕ → Bool) → ((base : ℕ) → q base ≡ true → valid base ≡ true → ⊥) → anyMultiple a lo hi q ≡ true
+        → (base : ℕ) × InRange a lo hi base × (valid base ≡ false)
+    not-valid q fails h = let (c, i, t) = any-says a lo hi q h in (c, i, is-false (valid c) (fails c t))
 
-    not-most : anyMultiple a lo hi (λ base. ltb max (base + s)) ≡ true → (base : ℕ) × InRange a lo hi base × (valid base ≡ false)
-    not-most h =
-        let (c, i, q) = any-says a lo hi (λ base. ltb max (base + s)) h in
-        let u = ltb-true max (c + s) q in
-        (c, i, is-false (valid c) (λ h. let (m, x, y) = valid-says c h in absurd (omega arith)))
+    -- below the minimum, or with an end above the maximum, no base is valid
+    not-least : (base : ℕ) → ltb base min ≡ true → valid base ≡ true → ⊥
+    not-least base q h = let (m, x, y) = valid-says base h in let u = ltb-true base min q in omega arith
+
+    not-most : (base : ℕ) → ltb max (base + s) ≡ true → valid base ≡ true → ⊥
+    not-most base q h = let (m, x, y) = valid-says base h in let u = ltb-true max (base + s) q in omega arith
 
     -- where none is, each is valid
     each : anyMultiple a lo hi (λ base. ltb base min) ≡ false → anyMultiple a lo hi (λ base. ltb max (base + s)) ≡ false
@@ -147,8 +146,8 @@ module _ (a s min max : ℕ) where
 
         go : (b e v : Bool) → b ≡ anyMultiple a lo hi (λ base. ltb base min) → not e ≡ anyMultiple a lo hi (λ base. ltb max (base + s)) → v ≡ anyMultiple a lo hi valid
             → cond (not b && e) Always (cond v Sometimes Never) ≡ rangeOf a lo hi valid
-        go true e v f g h = some v h (not-least (sym f))
-        go false false v f g h = some v h (not-most (sym g))
+        go true e v f g h = some v h (not-valid (λ base. ltb base min) not-least (sym f))
+        go false false v f g h = some v h (not-valid (λ base. ltb max (base + s)) not-most (sym g))
         go false true v f g h =
             let i : InRange a lo hi (multipleTo hi a) = record { from = l; to = to-below hi a; multiple = to-multiple hi a } in
             sym (exactly a lo hi valid Always .1 ((multipleTo hi a, i), each (sym f) (sym g)))

@@ -5,7 +5,7 @@ use Rattle.lent.{specs.Lent.rowsPut, proofs.LentLaws.rows-none}
 use Rattle.sheet.{specs.Head.{Limits, limits, headOf}, specs.Read.Readable, proofs.Readable.readable-bounds}
 use Rattle.sheet_headers.specs.Headers.{sheetHeaders}
 use Rattle.rules.{specs.Relocations.{regionAt, pageTableAt}, specs.declared.IgvmRelocatableRegion.IgvmRelocatableRegion, specs.declared.PageTableRegion.PageTableRegion}
-use Rattle.answers.{proofs.AnswerLaws.{regionsOf, accepted-readable, list-says, found-count}, specs.declared.Answered.Answered, specs.declared.Checked.Checked, specs.Verdict.verdictRefusal, specs.Relocations.{sheetInitializations, maskFault, wordsFault, relocationsRefusal, foundOf, relocationsOf, regionWords, wordsAfter, regionFault, checkRefusal, testRegion, checkOf, answerFor}, specs.BaseRanges.{rangeFault, rangeRefusal}}
+use Rattle.answers.{proofs.AnswerLaws.{answered, regionsOf, accepted-readable, list-says, found-count}, specs.declared.Answered.Answered, specs.declared.Checked.Checked, specs.Verdict.verdictRefusal, specs.Relocations.{sheetInitializations, maskFault, wordsFault, relocationsRefusal, foundOf, relocationsOf, regionWords, wordsAfter, regionFault, checkRefusal, testRegion, checkOf, answerFor}, specs.BaseRanges.{rangeFault, rangeRefusal}}
 use Rattle.initialization_check.specs.declared.RelocRegions.{RelocRegions}
 use Rattle.keep.specs.Kept.{Kept}
 use Rattle.regions.{specs.declared.FoundRegion.FoundRegion, specs.declared.FoundTable.FoundTable, specs.Found.{foundRegion, foundTable}}
@@ -13,9 +13,6 @@ use Rattle.relocations.specs.Query.{queryRefusal}
 
 abbrev pub checked : Refusal → Bool → Checked
 checked refusal holds = record { refusal = refusal; holds = holds }
-
-abbrev pub answered : Refusal → ℕ → Answered
-answered refusal answer = record { refusal = refusal; answer = answer }
 
 -- what the code holds of a region or a table that was looked for
 found-test : (p : IgvmRelocatableRegion → Bool) (o : Option IgvmRelocatableRegion) → (foundRegion o .found && p (foundRegion o .region)) ≡ testRegion p o
