@@ -1,10 +1,14 @@
 // Compatibility masks: shared bits, one-bit masks, and the set bits of a mask.
 ghost use mathlib.Core.Path.{_≡_};
-ghost use mathlib.Core.Bool.{cond};
+ghost use mathlib.Core.Bool.{cond, not};
+ghost use mathlib.Core.Option.{none, some};
 ghost use mathlib.Core.List.{[], _∷_, _++_};
-ghost use Prim.Native.Nat.{_+_, _≤_, _<_};
+ghost use Prim.Native.Nat.{_+_, _-_, _≤_, _<_};
+ghost use lib.Bits.{bitAnd};
+ghost use lib.Dec.{eqb};
 ghost use lib.ListN.{take};
-ghost use Rattle.masks.specs.Masks.{shares, matches, isOneBit, individualMasks};
+ghost use Rattle.masks.specs.Masks.{shares, matches, isOneBit, individualMasks, firstMask};
+ghost use Rattle.masks.specs.Without.{without};
 
 pub fn shares(m: u32, n: u32) -> bool
     ensures { λ r. ⌜ r ≡ shares m n ⌝ }
@@ -33,6 +37,30 @@ pub fn is_one_bit(m: u32) -> bool
         return false;
     }
     m & (m - 1) == 0
+}
+
+// The bits of a mask that another has not.
+pub fn without(m: u32, held: u32) -> u32
+    ensures { λ r. ⌜ r ≡ without m held ⌝ }
+{
+    m - (m & held)
+}
+
+// The lowest bit of a mask, as a mask; 0 where it has none. One less has all of its bits but that one.
+fn lowest(m: u32) -> u32
+    ensures { λ r. ⌜ r ≡ m - bitAnd m (m - 1) ⌝ }
+{
+    if m == 0 {
+        return 0;
+    }
+    m - (m & (m - 1))
+}
+
+// The lowest bit of a mask that another has not, as a mask; 0 where it has them all.
+pub fn lowest_without(m: u32, held: u32) -> u32
+    ensures { λ r. ⌜ firstMask (λ bit. not (shares held bit)) (individualMasks m) ≡ cond (eqb r 0) none (some r) ⌝ }
+{
+    lowest(without(m, held))
 }
 
 // Up to 32 masks of one bit each: the first `count` of the array.
