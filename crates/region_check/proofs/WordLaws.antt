@@ -3,7 +3,7 @@ use native.Mathlib.Nat.{mul-le-mul-left}
 use lib.Seq.{getD-drop}
 use Rattle.rows.{proofs.Kit.{ℕ, zero, suc, _+_, _*_, _/_, _%_, _^_, _≤_, _<_, pow-succ', _≡_, refl, sym, ap, _∙_, Bool, true, false, cond, inl, inr, List, [], _∷_, Option, none, some, take, drop, length, getD, getD-take, List·getD-eq-default, length-take, length-drop, eqb, eqb-true, eqb-false, ltb, decLt, arith, not-suc-le-zero}, specs.Below.{sumBelow, countBelow, nthBelow}, specs.Rows.{Rows, rowAt}, proofs.Bools.which, proofs.BelowLaws.{sum-cong, nth-says}}
 use Rattle.le.specs.Le.{byteAt, leAt}
-use Rattle.igvm_defs.{specs.Vtls.{vtlNumber, vtlOf}, specs.declared.Vtl.Vtl, specs.declared.Vtl.the-variants.{Vtl0, Vtl1, Vtl2}}
+use Rattle.igvm_defs.{specs.Vtls.vtlOf, proofs.VtlLaws.vtl-below}
 use Rattle.initialization_header.{specs.declared.IgvmInitializationHeader.IgvmInitializationHeader, specs.Initializations.{initializationOf, guestPolicyOf, ccaPolicyOf, relocatableRegionOf, pageTableRelocationRegionOf}}
 use Rattle.rules.{specs.Relocations.{isRelocatable, relocatableOf, regionAt}, specs.Options.then}
 use Rattle.answers.specs.Relocations.{regionWords}
@@ -36,11 +36,6 @@ le-part n m b w o l =
 
 -- ---- the words of a region
 
-vtl-bound : (v : Vtl) → vtlNumber v < 18446744073709551616
-vtl-bound Vtl0 = omega arith
-vtl-bound Vtl1 = omega arith
-vtl-bound Vtl2 = omega arith
-
 flag-bound : (t : Bool) (n : ℕ) → cond t n 0 ≤ n
 flag-bound true n = omega arith
 flag-bound false n = omega arith
@@ -55,7 +50,7 @@ header-bound b h (suc (suc (suc (suc (suc zero))))) =
     let x = flag-bound (eqb (byteAt b 44 % 2) 1) 1 in let y = flag-bound (eqb (byteAt b 44 / 2 % 2) 1) 2 in let z = flag-bound (eqb (byteAt b 44 / 4 % 2) 1) 4 in
     omega (arith, x, y, z)
 header-bound b h (suc (suc (suc (suc (suc (suc zero)))))) = let l = le-bound 2 b 45 h in omega (arith, l)
-header-bound b h (suc (suc (suc (suc (suc (suc (suc zero))))))) = vtl-bound (vtlOf (byteAt b 47))
+header-bound b h (suc (suc (suc (suc (suc (suc (suc zero))))))) = let l = vtl-below (vtlOf (byteAt b 47)) in omega arith
 header-bound b h (suc (suc (suc (suc (suc (suc (suc (suc j)))))))) = omega arith
 
 pub row-bound : (kind : ℕ) (b : List ℕ) → Bytes b → (j : ℕ) → getD (regionWords (relocatableOf (initializationOf kind b))) j 0 < 18446744073709551616
