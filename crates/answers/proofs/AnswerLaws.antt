@@ -2,9 +2,10 @@
 use Rattle.rows.{proofs.Kit.{_≡_, refl, _∙_, Bool, false, false≢true, not, not-false, List, _≢_, Option, none, some, ℕ, _*_, _/_, _≤_, _<_, eqb, ltb, ltb-false, ltb-true, eqb-false, arith}, specs.Below.nthBelow, specs.Rows.{Rows, rowAt}, proofs.Bools.and-parts, proofs.BelowLaws.{nth-says, nth-none}}
 use Rattle.igvm_defs.{specs.declared.Refusal.Refusal, specs.Refusals.{noFault, noRefusal, isRefusal, inRow}, proofs.RefusalLaws.{row-refusal, orElse-later, no-fault-row}}
 use Rattle.sheet.{specs.Head.Limits, specs.Read.{Readable, sheetRefusal}, proofs.Readable.sheet-says}
+use Rattle.sheet_headers.specs.Headers.{sheetHeaders}
 use Rattle.masks.specs.Masks.{matches}
 use Rattle.initialization_header.{specs.declared.IgvmInitializationHeader.IgvmInitializationHeader, specs.Fields.{initializationFields, kindNumber}}
-use Rattle.rules.{specs.declared.PageTableRegion.PageTableRegion, specs.Relocations.{isRelocatable, relocatableOf, regionCount, regionAt}, specs.Options.then, proofs.FaultLaws.{refuse-none, else-none}}
+use Rattle.rules.{specs.declared.PageTableRegion.PageTableRegion, specs.Relocations.{isRelocatable, relocatableOf, regionCount, regionAt}, specs.Options.then, proofs.FaultLaws.{refuse-none, else-none}, proofs.VerdictLaws.headers-none}
 use Rattle.answers.specs.{declared.Answered.Answered, Verdict.verdictRefusal, Relocations.{sheetInitializations, maskFault, wordsFault, relocationsRefusal, foundOf, regionFault, checkRefusal}}
 
 -- a named answer, by its refusal and its number
@@ -15,6 +16,11 @@ answered refusal answer = record { refusal = refusal; answer = answer }
 pub accepted-readable : (l : Limits) (s : List ℕ) → isRefusal (verdictRefusal l s) ≡ false → Readable l s
 unfolding verdictRefusal
 accepted-readable l s v = sheet-says l s .0 (else-none (sheetRefusal l s) _ .0 v .0) .0
+
+-- the refusal of an accepted sheet has no row and no detail
+pub accepted-none : (l : Limits) (s : List ℕ) → isRefusal (verdictRefusal l s) ≡ false → verdictRefusal l s ≡ noRefusal
+unfolding verdictRefusal
+accepted-none l s v = let (p, n) = else-none (sheetRefusal l s) _ .0 v in orElse-later (sheetRefusal l s) _ p ∙ headers-none (sheetHeaders s) n
 
 -- how many regions the mask has
 abbrev pub regionsOf : List ℕ → ℕ → ℕ

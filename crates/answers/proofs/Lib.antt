@@ -1,3 +1,4 @@
 pub mod AnswerLaws
+pub mod StrictLaws
 pub mod BaseLaws
 pub mod BaseRangeLaws

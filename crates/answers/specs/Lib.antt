@@ -1,4 +1,5 @@
 pub mod Verdict
+pub mod Strict
 pub mod Relocations
 pub mod Numbers
 pub mod Region

@@ -2,9 +2,11 @@ pub mod RegionLaws
 pub mod FaultLaws
 pub mod AreaLaws
 pub mod Acceptance
+pub mod VerdictLaws
 pub mod Within
 pub mod QueryLaws
 pub mod Order
 pub mod SoundLaws
+pub mod StrictLaws
 pub mod OrderExamples
 pub mod ViewExamples

@@ -1,8 +1,9 @@
 -- Laws of regions and of the tests on them.
-use Rattle.rows.{proofs.Kit.{_≡_, refl, sym, Bool, true, false, _&&_, false≢true, _↔_, Option, none, some, ℕ, _+_, arith, leb, ltb, lt-ltb, ltb-true, leb-true}, specs.Rows.{Rows, any}, proofs.Bools.{not-both, is-false, and-parts}, proofs.BelowLaws.none-any}
+use Rattle.rows.{proofs.Kit.{_≡_, refl, sym, Bool, true, false, _&&_, false≢true, _↔_, Option, none, some, ℕ, _+_, _<_, arith, leb, ltb, lt-ltb, ltb-true, leb-true}, specs.Rows.{Rows, any}, proofs.Bools.{not-both, is-false, and-parts}, proofs.BelowLaws.none-any}
+use Rattle.igvm_defs.{specs.Vtls.vtlNumber, proofs.VtlLaws.vtl-below}
 use Rattle.masks.{specs.Masks.shares, proofs.MaskLaws.shares-sym}
 use Rattle.addresses.specs.Addresses.{contains, meets}
-use Rattle.initialization_header.specs.declared.IgvmInitializationHeader.{IgvmInitializationHeader}
+use Rattle.initialization_header.specs.declared.{IgvmInitializationHeader.IgvmInitializationHeader, IgvmInitializationHeader.the-variants.{GuestPolicy, CcaPolicy, RelocatableRegion, PageTableRelocationRegion}}
 use Rattle.rules.specs.{declared.Region.Region, Regions.{regionOf, regionPasses, tablesShare, overlap, regionsClash}, Options.passes}
 
 -- ---- ranges of addresses
@@ -58,6 +59,14 @@ region-fails p h = (
   λ e r o. is-false (p r) (λ g. not-both e (region-passes p h .1 (r, o, g))),
   λ e. is-false (regionPasses p h) (λ g. let (r, o, t) = region-passes p h .0 g in not-both (e r o) t),
 )
+
+-- a region's VTL is one of three
+pub region-vtl : (h : IgvmInitializationHeader) (r : Region) → regionOf h ≡ some r → r .vtl < 3
+region-vtl (GuestPolicy policy mask) r e = absurd (false≢true (cc))
+region-vtl (CcaPolicy mask zeroes ones) r e = absurd (false≢true (cc))
+region-vtl (RelocatableRegion mask alignment gpa size minimum maximum vtl2 rip gdtr vp vtl) r e =
+    let l = vtl-below vtl in let q : r .vtl ≡ vtlNumber vtl = cc in omega arith
+region-vtl (PageTableRelocationRegion mask gpa size used vp vtl) r e = let l = vtl-below vtl in let q : r .vtl ≡ vtlNumber vtl = cc in omega arith
 
 -- ---- two headers with regions
 

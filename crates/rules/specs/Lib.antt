@@ -9,3 +9,4 @@ pub mod Relocations
 pub mod Accepted
 pub mod Reordered
 pub mod Sound
+pub mod Strict

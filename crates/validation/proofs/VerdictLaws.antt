@@ -1,35 +1,14 @@
--- Which refusal the verdict is, list after list, and the answer that it makes.
-use Rattle.rows.{proofs.Kit.{_≡_, _∙_, true, false, List, ℕ, _+_}, proofs.Bools.or-false-parts}
-use Rattle.igvm_defs.{specs.declared.Refusal.Refusal, specs.Refusals.{noRefusal, isFault, isRefusal, inRow, firstFault}, proofs.RefusalLaws.{row-refusal, else-refusal, no-fault-row, orElse-first, orElse-later}}
+-- Which refusal the verdict is, and the answer that it makes.
+use Rattle.rows.{proofs.Kit.{_≡_, _∙_, true, false, List, ℕ}, proofs.Bools.or-false-parts}
+use Rattle.igvm_defs.{specs.declared.Refusal.Refusal, specs.Refusals.{noRefusal, isFault, isRefusal, inRow}, proofs.RefusalLaws.{row-refusal, else-refusal, orElse-first, orElse-later}}
 use Rattle.sheet.{specs.Head.{Limits, headOf, startFault, pageSizeFault}, specs.Read.{rowsRefusal, sheetRefusal}, proofs.ReadLaws.{start-stop, sheet-stop, sheet-end}}
 use Rattle.sheet_headers.specs.Headers.{sheetHeaders}
-use Rattle.rules.{specs.Accepted.NotRefused, proofs.Acceptance.headers-say, specs.Headers.Headers, specs.Verdict.{directiveFaults, noMatchingVpContext, platformsRefusal, initializationsRefusal, directivesRefusal, headersRefusal}}
+use Rattle.rules.{specs.Accepted.NotRefused, specs.Verdict.headersRefusal, proofs.VerdictLaws.headers-none}
 use Rattle.answers.{specs.declared.Verdict.Verdict, specs.Verdict.{verdictRefusal, verdictOf}}
 
 -- the answer to a file that is refused
 abbrev pub refusedVerdict : Refusal → Verdict
 refusedVerdict r = record { refusal = r; platforms = 0; initializations = 0; directives = 0 }
-
-module _ (h : Headers) where
-  pub headers-platforms : isRefusal (platformsRefusal h) ≡ true → headersRefusal h ≡ platformsRefusal h
-  unfolding headersRefusal
-  headers-platforms t = orElse-first (platformsRefusal h) _ t
-
-  pub headers-initializations : isRefusal (platformsRefusal h) ≡ false → isRefusal (initializationsRefusal h) ≡ true → headersRefusal h ≡ initializationsRefusal h
-  unfolding headersRefusal
-  headers-initializations p t = orElse-later (platformsRefusal h) _ p ∙ orElse-first (initializationsRefusal h) _ t
-
-  pub headers-directives : isRefusal (platformsRefusal h) ≡ false → isRefusal (initializationsRefusal h) ≡ false → headersRefusal h ≡ directivesRefusal h
-  unfolding headersRefusal
-  headers-directives p i = orElse-later (platformsRefusal h) _ p ∙ orElse-later (initializationsRefusal h) _ i
-
-  -- a refusal of the directives that is none has no row and no detail
-  pub directives-none : isRefusal (directivesRefusal h) ≡ false → directivesRefusal h ≡ noRefusal
-  unfolding directivesRefusal
-  directives-none e =
-      let rows = firstFault (h .platforms .count + h .initializations .count) (h .directives .count) (directiveFaults h) in
-      let (a, b) = or-false-parts (isRefusal rows) _ (rw else-refusal at e) in
-      orElse-later rows (inRow 0 (noMatchingVpContext h)) a ∙ no-fault-row 0 (noMatchingVpContext h) (rw row-refusal at b)
 
 module _ (l : Limits) (s : List ℕ) where
   pub refused : (r : Refusal) → verdictRefusal l s ≡ r → isRefusal r ≡ true → verdictOf l s ≡ refusedVerdict r
@@ -40,16 +19,11 @@ module _ (l : Limits) (s : List ℕ) where
   unfolding verdictRefusal
   later e = orElse-later (sheetRefusal l s) _ e
 
-  pub verdict-accepted : isRefusal (sheetRefusal l s) ≡ false → isRefusal (platformsRefusal (sheetHeaders s)) ≡ false
-      → isRefusal (initializationsRefusal (sheetHeaders s)) ≡ false → isRefusal (directivesRefusal (sheetHeaders s)) ≡ false
-      → verdictOf l s ≡ record { refusal = noRefusal; platforms = headOf s .platforms; initializations = headOf s .initializations; directives = headOf s .directives }
-  unfolding verdictOf isRefusal
-  verdict-accepted e p i d = rw (later e ∙ headers-directives (sheetHeaders s) p i ∙ directives-none (sheetHeaders s) d)
-
   -- where none of 1 to 34 applies
   pub verdict-none : isRefusal (sheetRefusal l s) ≡ false → NotRefused (sheetHeaders s)
       → (verdictOf l s ≡ record { refusal = noRefusal; platforms = headOf s .platforms; initializations = headOf s .initializations; directives = headOf s .directives })
-  verdict-none e h = let (p, i, d) = headers-say (sheetHeaders s) .0 h in verdict-accepted e p i d
+  unfolding verdictOf isRefusal
+  verdict-none e h = rw (later e ∙ headers-none (sheetHeaders s) h)
 
   pub verdict-parts : isRefusal (verdictRefusal l s) ≡ false → (isRefusal (sheetRefusal l s) ≡ false) × NotRefused (sheetHeaders s)
   unfolding verdictRefusal

@@ -3,8 +3,8 @@ use Rattle.igvm_defs.specs.Refusals.{isRefusal}
 use Rattle.sheet.{proofs.Readable.sheet-says, specs.Read.Readable, specs.Head.limits}
 use Rattle.sheet_headers.specs.Headers.{sheetHeaders}
 use Rattle.initialization_check.specs.Record.{HoldsRegions}
-use Rattle.rules.specs.Verdict.{platformsRefusal, initializationsRefusal}
-use Rattle.validation.proofs.{VerdictLaws.{headers-platforms, headers-initializations, headers-directives}, validate_headers.Statement.statement}
+use Rattle.rules.{specs.Verdict.{platformsRefusal, initializationsRefusal}, proofs.VerdictLaws.{headers-platforms, headers-initializations, headers-directives}}
+use Rattle.validation.proofs.validate_headers.Statement.{statement}
 use Rattle.validation.proofs.validate_headers.Tie as tie
 
 readable : (c : tie.After-shared-slice-known) → Readable limits (now (c .before .args .s))
