@@ -54,10 +54,10 @@ initializations-none s held numbers c a l p =
 -- the directive rows, and 34
 pub all-none : (s masks gpas sizes vps vtls : List ℕ) (tables : List Bool) (n : ℕ) (numbers contexts : List ℕ) (from c : Cursor)
     → ListsAccepted s (regionsIn masks gpas sizes vps vtls tables n) from → DirectivesAccepted s c contexts → rowCount (headOf s) ≤ c .row → length s ≤ c .at
-    → anyLacks masks vps vtls n contexts ≡ false → HoldsRows (headOf s .platforms) numbers (regionsIn masks gpas sizes vps vtls tables n) (sheetHeaders s .initializations)
+    → length contexts ≡ 3 → anyLacks masks vps vtls n contexts ≡ false → HoldsRows (headOf s .platforms) numbers (regionsIn masks gpas sizes vps vtls tables n) (sheetHeaders s .initializations)
     → RowsAccepted s (regionsIn masks gpas sizes vps vtls tables n) numbers contexts
 unfolding lacksContext
-all-none s masks gpas sizes vps vtls tables n numbers contexts from c lists a l whole lacks rows =
+all-none s masks gpas sizes vps vtls tables n numbers contexts from c lists a l whole three lacks rows =
     let f = sheetHeaders s in let held = regionsIn masks gpas sizes vps vtls tables n in let high = a .read .high in let low = a .low in
     let k = sheet-counts s .directives in
     let e : c .row - firstDirective s ≡ f .directives .count = omega arith in
@@ -69,7 +69,7 @@ all-none s masks gpas sizes vps vtls tables n numbers contexts from c lists a l 
     record {
       read = rows-read s c (a .read) l whole;
       headers = headers-say f .1 (lists .platforms, lists .initializations, directives);
-      kept = record { regions = lists .holds; rows = rows; masks = contexts-held };
+      kept = record { regions = lists .holds; rows = rows; masks = contexts-held; vtls = three };
     }
 
 -- before the first directive row nothing is passed

@@ -151,7 +151,7 @@ module _ {s : List ℕ} {end : ℕ} {x64 : Bool} {cca : ℕ} {was : RelocRegions
                 high = omega arith;
                 good = rw (next, any-more, p .good, faultless);
                 holds = rw next (holds-stored held new room xs i found (p .holds) region);
-                rows = rw (next, number) (rows-stored held new room first numbers xs i (p .rows) found (omega arith) region);
+                rows = rw (next, number) (rows-stored held new room first numbers xs i (p .holds) (p .rows) found (omega arith) region);
               };
           covers = rw next (covers-more reach wider xs i found new (r .covers) region apart);
         }

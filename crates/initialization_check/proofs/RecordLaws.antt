@@ -1,8 +1,8 @@
 -- The record of regions answers for the rows that it holds.
-use Rattle.rows.{proofs.Kit.{_≡_, refl, sym, ap, ap₂, _∙_, Bool, true, false, cond, _||_, or-false, List, none, some, ℕ, _+_, _<_, _≤_, add-zero, arith, ltb, length, getD, set, length-set, getD-set-same, getD-set-other, ltb-true, ltb-false}, specs.Below.{anyBelow, sumBelow, countBelow}, specs.Rows.{Rows, before}, proofs.BelowLaws.{any-more, any-same-tests, count-more, count-same-tests}}
+use Rattle.rows.{proofs.Kit.{_≡_, refl, sym, ap, ap₂, _∙_, Bool, true, false, cond, _||_, or-false, List, none, some, ℕ, _+_, _<_, _≤_, add-zero, arith, ltb, length, set, length-set, getD-set-same, getD-set-other, ltb-true, ltb-false}, specs.Below.{anyBelow, sumBelow, countBelow}, specs.Rows.{Rows, before}, proofs.BelowLaws.{any-more, any-same-tests, count-more, count-same-tests}}
 use Rattle.initialization_header.specs.declared.IgvmInitializationHeader.{IgvmInitializationHeader}
 use Rattle.rules.{specs.declared.Region.Region, specs.Regions.{regionOf, regionPasses, tablesShare, overlap}}
-use Rattle.initialization_check.specs.{declared.RelocRegions.RelocRegions, Record.{entry, anyRegion, HoldsRegions, HoldsRows, HoldsClashes, stored}}
+use Rattle.initialization_check.specs.{declared.RelocRegions.RelocRegions, Record.{entry, anyRegion, HoldsRegions, RegionOfRow, HoldsRows, HoldsClashes, stored}}
 
 -- no region, and no row
 pub holds-none : (r : RelocRegions) (xs : Rows IgvmInitializationHeader) → r .count ≡ 0 → HoldsRegions r (before 0 xs)
@@ -92,14 +92,26 @@ module _ (r : RelocRegions) (new : Region) (room : Room r) where
   count-before : (found : Bool) (p : Region → Bool) → countBelow (r .count) (λ e. p (entry (stored r found new) e)) ≡ countBelow (r .count) (λ e. p (entry r e))
   count-before found p = count-same-tests (r .count) (λ e. p (entry (stored r found new) e)) (λ e. p (entry r e)) (λ e l. ap p (entry-before found e l))
 
-  module _ (first : ℕ) (rows : List ℕ) (xs : Rows IgvmInitializationHeader) (i : ℕ) (held : HoldsRows first rows r (before i xs)) where
+  module _ (first : ℕ) (rows : List ℕ) (xs : Rows IgvmInitializationHeader) (i : ℕ) (regions : HoldsRegions r (before i xs)) (held : HoldsRows first rows r (before i xs)) where
+    -- the regions before a region that the record had are as they were
+    earlier-before : (found : Bool) (e : ℕ) → e ≤ r .count → (p : Region → Bool)
+        → anyBelow e (λ d. p (entry (stored r found new) d)) ≡ anyBelow e (λ d. p (entry r d))
+    earlier-before found e l p = any-same-tests e (λ d. p (entry (stored r found new) d)) (λ d. p (entry r d)) (λ d k. ap p (entry-before found d (omega arith)))
+
     -- a region that the record had keeps its row
     each-before : (found : Bool) (e : ℕ) → e < r .count
-        → (j : ℕ) × (j < i + 1) × (getD (set rows (r .count) (first + i + 1)) e 0 ≡ first + j + 1) × (regionOf (xs .row j) ≡ some (entry (stored r found new) e))
+        → (j : ℕ) × RegionOfRow first (set rows (r .count) (first + i + 1)) (stored r found new) (before (i + 1) xs) e j
     each-before found e l =
-        let (j, k, at, region) = held .each e l in
-        let ne : (e ≡ r .count → ⊥) = λ q. omega arith in
-        (j, omega arith, rw (getD-set-other rows (r .count) e (first + i + 1) 0 ne) at, rw (entry-before found e l) region)
+        let (j, h) = held .each e l in
+        let ne : (e ≡ r .count → ⊥) = λ q. omega arith in (
+          j,
+          record {
+            below = let b = h .below in omega arith;
+            number = rw (getD-set-other rows (r .count) e (first + i + 1) 0 ne) (h .number);
+            region = rw (entry-before found e l) (h .region);
+            earlier = λ p. earlier-before found e (omega arith) p ∙ h .earlier p;
+          },
+        )
 
     -- one row more
     pub rows-stored : (found : Bool) → r .count < length rows → regionOf (xs .row i) ≡ cond found (some new) none
@@ -115,12 +127,20 @@ module _ (r : RelocRegions) (new : Region) (room : Room r) where
         }
       where
         go : (e : ℕ) → e < r .count + 1 → (b : Bool) → ltb e (r .count) ≡ b
-            → (j : ℕ) × (j < i + 1) × (getD (set rows (r .count) (first + i + 1)) e 0 ≡ first + j + 1) × (regionOf (xs .row j) ≡ some (entry (stored r true new) e))
+            → (j : ℕ) × RegionOfRow first (set rows (r .count) (first + i + 1)) (stored r true new) (before (i + 1) xs) e j
         go e h true t = each-before true e (ltb-true e (r .count) t)
         go e h false t =
             let m = ltb-false e (r .count) t in
             let q : e ≡ r .count = omega arith in
-            rw q (i, omega arith, getD-set-same rows (r .count) (first + i + 1) 0 l, rw (entry-last true) f)
+            rw q (
+              i,
+              record {
+                below = omega arith;
+                number = getD-set-same rows (r .count) (first + i + 1) 0 l;
+                region = rw (entry-last true) f;
+                earlier = λ p. same-before true p ∙ regions .same p;
+              },
+            )
     rows-stored false l f =
         record {
           each = λ e h. each-before false e (omega arith);

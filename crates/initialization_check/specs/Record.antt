@@ -45,10 +45,18 @@ abbrev pub regionsIn : List ℕ → List ℕ → List ℕ → List ℕ → List 
 regionsIn masks gpas sizes vps vtls tables n =
     record { mask = masks; gpa = gpas; size = sizes; «vp_index» = vps; vtl = vtls; «page_table» = tables; count = n }
 
--- the rows of a record's regions: `first` rows of the sheet stand before the list
+-- region e of the record is that of row i of the list, whose number in the sheet stands at e; `first` rows of the sheet stand before the list
+pub record RegionOfRow (first : ℕ) (rows : List ℕ) (r : RelocRegions) (xs : Rows IgvmInitializationHeader) (e i : ℕ) : Type 0 where
+  pub below : i < xs .count
+  pub number : getD rows e 0 ≡ first + i + 1
+  pub region : regionOf (xs .row i) ≡ some (entry r e)
+  -- a test finds a region before it in the record exactly where the region of a row before row i passes
+  pub earlier : (p : Region → Bool) → anyBelow e (λ d. p (entry r d)) ≡ any (regionPasses p) (before i xs)
+
+-- the rows of a record's regions
 pub record HoldsRows (first : ℕ) (rows : List ℕ) (r : RelocRegions) (xs : Rows IgvmInitializationHeader) : Type 0 where
-  -- region e is that of the row whose number in the sheet, from 1, stands at e
-  pub each : (e : ℕ) → e < r .count → (i : ℕ) × (i < xs .count) × (getD rows e 0 ≡ first + i + 1) × (regionOf (xs .row i) ≡ some (entry r e))
+  -- region e is that of the row whose number in the sheet, from 1, stands at e, and the regions before it are those of the rows before that one
+  pub each : (e : ℕ) → e < r .count → (i : ℕ) × RegionOfRow first rows r xs e i
   -- as many regions pass a test as rows' regions do
   pub counts : (p : Region → Bool) → countBelow (r .count) (λ e. p (entry r e)) ≡ countOf (regionPasses p) xs
 

@@ -61,7 +61,7 @@ module _ {s : List ℕ} {first n : ℕ} {was : RelocRegions} {wasNumbers : List 
         at = rw (next, r .at, add-assoc);
         lent = lent-stored (headOf s .initializations) was wasNumbers held numbers found new (first + i + 1) (r .lent);
         holds = holds-stored held new room xs i found (r .holds) of;
-        row-of = rows-stored held new room first numbers xs i (r .row-of) found number of;
+        row-of = rows-stored held new room first numbers xs i (r .holds) (r .row-of) found number of;
       }
 
   -- every row passed

@@ -1,6 +1,8 @@
 -- What stands after the verdict on an accepted file: its regions, each with its row, and the masks of its contexts.
 use Prim.Native.Nat.{ℕ}
 use mathlib.Core.List.{List}
+use mathlib.Core.Path.{_≡_}
+use lib.ListN.{length}
 use Rattle.sheet.specs.Head.{headOf}
 use Rattle.sheet_headers.specs.Headers.{sheetHeaders}
 use Rattle.initialization_check.specs.declared.RelocRegions.{RelocRegions}
@@ -11,3 +13,5 @@ pub record Kept (s : List ℕ) (held : RelocRegions) (numbers contexts : List �
   pub regions : HoldsRegions held (sheetHeaders s .initializations)
   pub rows : HoldsRows (headOf s .platforms) numbers held (sheetHeaders s .initializations)
   pub masks : HoldsContexts contexts (sheetHeaders s .directives)
+  -- one mask for each VTL
+  pub vtls : length contexts ≡ 3

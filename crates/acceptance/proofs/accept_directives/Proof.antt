@@ -25,7 +25,7 @@ returns-2 c =
     let a = c .before .before .before .before .before .accept .ensures .0 in
     let (l, whole) = behind (c .before .before) in (
       (a, refl),
-      λ numbers held e. all-none _ _ _ _ _ _ _ _ numbers _ _ _ (p .1 .1 .0) a (omega (arith, p .0 .1)) whole (sym (c .any-lacks .ensures) ∙ not-true _ e) held,
+      λ numbers held e. all-none _ _ _ _ _ _ _ _ numbers _ _ _ (p .1 .1 .0) a (omega (arith, p .0 .1)) whole (c .before .before .before .before .before .accept .ensures .1) (sym (c .any-lacks .ensures) ∙ not-true _ e) held,
     )
 
 pub accept-directives-spec : {M : Type 1} → statement M

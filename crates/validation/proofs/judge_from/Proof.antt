@@ -1,4 +1,4 @@
-use Rattle.rows.{proofs.Bools.not-both, proofs.Kit.{now, true, false, _≡_, sym, _∙_, needs}}
+use Rattle.rows.{proofs.Bools.not-both, proofs.Kit.{now, length, true, false, _≡_, sym, _∙_, needs}}
 use Rattle.igvm_defs.specs.Refusals.{isRefusal}
 use Rattle.sheet.{proofs.Readable.sheet-says, specs.Head.limits}
 use Rattle.answers.specs.Verdict.{verdictRefusal}
@@ -8,6 +8,10 @@ use Rattle.validation.proofs.judge_from.Tie as tie
 -- nothing is refused
 none : (c : tie.Else1) → isRefusal (verdictRefusal limits (now (c .before .before .before .before .before .before .before .before .before .before .before .before .before .before .args .s))) ≡ false
 none c = rw (← c .before .before .before .validate-from .ensures .told, ← c .before .is-refusal .ensures) (c .if1 .left)
+
+-- one mask for each VTL
+masks : (c : tie.After-validate-from) → length (c .validate-from .result .contexts) ≡ 3
+masks c = search needs
 
 validate-from-requires : tie.Need-validate-from-requires
 validate-from-requires c κs = let p = c .before .before .before .before .before .before .before .before .before .before .pre .0 in (p .0, p .1, p .2, rw (c .kept-contexts .ensures) (p .3))
@@ -30,7 +34,8 @@ returns-2 c =
     let p = c .before .before .before .before .before .before .before .before .before .before .before .before .before .before .before .before .before .before .before .before .before .before .before .before .before .before .before .before .before .validate-from .ensures in
     let k = c .before .before .before .before .before .before .before .before .before .before .before .before .before .before .before .keep-regions .ensures in
     let m = p .holds (rw (p .told) n) in
-    (c .accepted .ensures ∙ rw (c .before .before .before .before .before .before .before .before .before .before .before .before .before .before .before .before .before .before .before .before .before .before .before .before .before .before .before .before .before .before .before .before .before .before .before .before .before .before .before .before .pre .0 .1) (sym (verdict-none limits _ e h)), λ f. record { regions = k .0; rows = k .1; masks = rw (c .before .before .before .before .before .before .before .before .before .before .before .before .before .before .before .before .before .before .before .before .before .before .before .keep-contexts .ensures) m })
+    let three = masks (c .before .before .before .before .before .before .before .before .before .before .before .before .before .before .before .before .before .before .before .before .before .before .before .before .before .before .before .before .before) in
+    (c .accepted .ensures ∙ rw (c .before .before .before .before .before .before .before .before .before .before .before .before .before .before .before .before .before .before .before .before .before .before .before .before .before .before .before .before .before .before .before .before .before .before .before .before .before .before .before .before .pre .0 .1) (sym (verdict-none limits _ e h)), λ f. record { regions = k .0; rows = k .1; masks = rw (c .before .before .before .before .before .before .before .before .before .before .before .before .before .before .before .before .before .before .before .before .before .before .before .keep-contexts .ensures) m; vtls = rw (c .before .before .before .before .before .before .before .before .before .before .before .before .before .before .before .before .before .before .before .before .before .before .before .keep-contexts .ensures) three })
 
 pub judge-from-spec : {M : Type 1} → statement M
 judge-from-spec =
