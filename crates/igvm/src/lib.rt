@@ -5,6 +5,7 @@ ghost use lib.ListN.{length};
 ghost use Rattle.lent.specs.Lent.{numbersPut};
 ghost use Rattle.sheet.specs.Head.{limits};
 ghost use Rattle.answers.specs.Verdict.{verdictOf};
+ghost use Rattle.answers.specs.Strict.{strictVerdictOf};
 ghost use Rattle.answers.specs.Relocations.{relocationsOf, wordsAfter, baseCheckOf, containsOf};
 ghost use Rattle.answers.specs.BaseRanges.{baseRangeOf};
 ghost use Rattle.answers.specs.Region.{regionBaseCheckOf, regionContainsOf};
@@ -34,6 +35,31 @@ pub extern "C" fn igvm_verdict_numbers(sheet: &[u8], numbers: &mut [u8]) -> u64
     ensures { λ _. ⌜ now (numbers .exit) ≡ numbersPut (verdictNumbers (verdictOf limits (now (sheet .entry)))) (now (numbers .entry)) ⌝ }
 {
     verdict(sheet, 0, numbers)
+}
+
+// ---- the strict verdict: its numbers are those of the verdict
+
+fn strict_verdict(sheet: &[u8], which: u32, lent: &mut [u8]) -> u64
+    ensures { λ r. ⌜ r ≡ numberOf which (verdictNumbers (strictVerdictOf limits (now (sheet .entry)))) ⌝ }
+    ensures { λ _. ⌜ now (lent .exit) ≡ numbersPut (verdictNumbers (strictVerdictOf limits (now (sheet .entry)))) (now (lent .entry)) ⌝ }
+{
+    numbers::tell_verdict(strict::strict_verdict(&sheet[..]), which, lent)
+}
+
+#[no_mangle]
+pub extern "C" fn igvm_strict_verdict(sheet: &[u8], which: u32) -> u64
+    ensures { λ r. ⌜ r ≡ numberOf which (verdictNumbers (strictVerdictOf limits (now (sheet .entry)))) ⌝ }
+{
+    let mut none: [u8; 0] = [];
+    strict_verdict(sheet, which, &mut none)
+}
+
+#[no_mangle]
+pub extern "C" fn igvm_strict_verdict_numbers(sheet: &[u8], numbers: &mut [u8]) -> u64
+    ensures { λ r. ⌜ r ≡ numberOf 0 (verdictNumbers (strictVerdictOf limits (now (sheet .entry)))) ⌝ }
+    ensures { λ _. ⌜ now (numbers .exit) ≡ numbersPut (verdictNumbers (strictVerdictOf limits (now (sheet .entry)))) (now (numbers .entry)) ⌝ }
+{
+    strict_verdict(sheet, 0, numbers)
 }
 
 // ---- the region list: 0 number, 1 row, 2 detail, 3 count, 4 page table (1 or 0), 5 gpa, 6 size, 7 used size, 8 VP index, 9 VTL. `words` takes the regions' words
