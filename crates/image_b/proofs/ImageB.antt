@@ -1,30 +1,32 @@
--- Document 01's claims of image B, what reading it finds after a change, and what is said of bases, by computation.
+-- Document 01's claims of image B, what reading it finds after a change, what is said of bases, and the strict verdict, by computation.
 use lib.Count.{ones, onesIn}
 use Rattle.rows.{proofs.Kit.refl, specs.Below.{anyBelow, firstBelow, sumBelow, nthBelow}}
 use Rattle.le.specs.Le.{leAt}
 use Rattle.igvm_defs.{specs.Refusals.{isFault, isRefusal, inRow, orElse, firstFault}, specs.Kinds.{spans, kindOf, lengthOk}, specs.Platforms.{platformTypes, isPlatformType, platformTypeOf}, specs.Vtls.vtlOf}
-use Rattle.masks.specs.Masks.{shares, matches, isOneBit}
+use Rattle.masks.specs.Masks.{shares, matches, isOneBit, hasBit, bitsBelow, firstMask}
 use Rattle.addresses.{specs.Addresses.{isMultiple, contains, meets, endsBeyond}, specs.BaseChecks.baseCheck}
 use Rattle.sheet.{specs.Head.{limits, headOf, layoutOk, withinLimits, startFault, revisionOf, pageSizeFault}, specs.Table.{rowKind, rowLength, offsetOf, bodyOf}, specs.Read.{listAt, codesOk, rowFault, endFault, rowsRefusal, readRefusal, sheetRefusal}}
 use Rattle.platform_header.specs.Platforms.{platformOf}
 use Rattle.initialization_header.specs.Initializations.{initializationOf}
 use Rattle.directive_header.specs.Directives.{directiveOf}
 use Rattle.sheet_headers.specs.Headers.{sheetHeaders}
-use Rattle.rules.{specs.Regions.{regionPasses, tablesShare, overlap}, specs.Platforms.{validatePlatform, sameType, ownPlatformFault, platformFault}, specs.Initializations.{validateRegion, initializationFault}, specs.Directives.{wrongContextArch, badArea, ownDirectiveFault, directiveFault, noContext}, specs.Verdict.{noPlatform, noMatchingVpContext, platformsRefusal, initializationsRefusal, directivesRefusal, headersRefusal}, specs.Relocations.{regionCount, regionAt}}
-use Rattle.answers.{specs.Verdict.verdictRefusal, specs.Relocations.{maskFault, regionFault, checkRefusal, checkOf, answerOf}}
-use Rattle.image_b.specs.{ImageB.imageB, Claims.{claims, readings, bases, AllTrue}}
+use Rattle.rules.{specs.Regions.{regionPasses, tablesShare, overlap}, specs.Platforms.{validatePlatform, sameType, ownPlatformFault, platformFault}, specs.Initializations.{validateRegion, validateTable, initializationFault}, specs.Directives.{wrongContextArch, badArea, ownDirectiveFault, directiveFault, noContext}, specs.Verdict.{noPlatform, noMatchingVpContext, platformsRefusal, initializationsRefusal, directivesRefusal, headersRefusal}, specs.Relocations.{regionCount, regionAt}, specs.Strict.{bitWithoutContext, strictFault, contextsRefusal}}
+use Rattle.answers.{specs.Verdict.verdictRefusal, specs.Strict.strictRefusal, specs.Relocations.{maskFault, regionFault, checkRefusal, checkOf, answerOf}}
+use Rattle.image_b.specs.{ImageB.imageB, Claims.{claims, readings, bases, strictly, AllTrue}}
 
 -- one proof for each claim, each held against its own: so a wrong claim is refused where it stands
-pub image-b : AllTrue claims × AllTrue readings × AllTrue bases
+pub image-b : AllTrue claims × AllTrue readings × AllTrue bases × AllTrue strictly
 unfolding
     ones onesIn anyBelow firstBelow sumBelow nthBelow leAt isFault isRefusal inRow orElse firstFault spans kindOf lengthOk platformTypes
     isPlatformType platformTypeOf vtlOf limits headOf layoutOk withinLimits startFault revisionOf pageSizeFault rowKind rowLength offsetOf bodyOf
     listAt codesOk rowFault endFault rowsRefusal readRefusal sheetRefusal imageB platformOf initializationOf directiveOf shares matches isOneBit
-    isMultiple contains meets endsBeyond baseCheck regionPasses tablesShare overlap validatePlatform sameType ownPlatformFault platformFault validateRegion
+    hasBit bitsBelow firstMask isMultiple contains meets endsBeyond baseCheck regionPasses tablesShare overlap validatePlatform sameType ownPlatformFault platformFault validateRegion validateTable
     initializationFault wrongContextArch badArea ownDirectiveFault directiveFault noContext noPlatform noMatchingVpContext platformsRefusal initializationsRefusal
     directivesRefusal headersRefusal regionCount regionAt sheetHeaders verdictRefusal maskFault regionFault checkRefusal checkOf answerOf
+    bitWithoutContext strictFault contextsRefusal strictRefusal
 image-b = (
   (refl, (refl, (refl, (refl, (refl, (refl, (refl, (refl, (refl, (refl, (refl, (refl, (refl, tt))))))))))))),
   (refl, (refl, (refl, (refl, (refl, (refl, (refl, (refl, (refl, (refl, (refl, (refl, (refl, (refl, (refl, tt))))))))))))))),
   (refl, (refl, (refl, (refl, (refl, (refl, (refl, (refl, (refl, (refl, (refl, tt))))))))))),
+  (refl, (refl, (refl, (refl, (refl, (refl, (refl, (refl, (refl, (refl, (refl, (refl, (refl, (refl, tt)))))))))))))),
 )

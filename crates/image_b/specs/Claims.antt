@@ -1,5 +1,5 @@
 -- What document 01 claims of image B, as one table: the change of B, the question and the answer, of a base with the reason that request 7 gives. Beside it what
--- reading finds, and what is said of bases. The theorem is in proofs/ImageB.antt.
+-- reading finds, what is said of bases, and the strict verdict. The theorem is in proofs/ImageB.antt.
 use Prim.Native.Nat.{ℕ, zero, suc, _+_, _/_, _%_}
 use mathlib.Core.Path.{_≡_}
 use mathlib.Core.Bool.{cond}
@@ -13,6 +13,7 @@ use Rattle.addresses.specs.BaseChecks.{checkNumber}
 use Rattle.answers.specs.declared.Answered.{Answered}
 use Rattle.answers.specs.declared.Checked.{Checked}
 use Rattle.answers.specs.Verdict.{verdictRefusal}
+use Rattle.answers.specs.Strict.{strictRefusal}
 use Rattle.answers.specs.Relocations.{baseCheckOf, containsOf}
 use Rattle.image_b.specs.ImageB.{imageB}
 
@@ -59,6 +60,7 @@ secondRegion v s = part 0 10 s ++ 2 ∷ 0 ∷ [] ++ part 12 32 s ++ part 24 104 
 
 pub data Question : Type 0 where
   verdict : Question
+  strict : Question
   -- may region 0 of mask 1 be moved to this base, or why not
   base : ℕ → Question
   -- does this address lie in region 0 of mask 1
@@ -86,6 +88,7 @@ checkSays c = refusalOr (c .refusal) (cond (c .holds) yes no)
 -- what the definitions of the calls' answers say of a sheet
 abbrev pub says : Question → List ℕ → Answer
 says verdict s = refusalOr (verdictRefusal limits s) accepted
+says strict s = refusalOr (strictRefusal limits s) accepted
 says (base x) s = answerSays (baseCheckOf limits s 1 0 x)
 says (contains x) s = checkSays (containsOf limits s 1 0 x)
 
@@ -195,6 +198,45 @@ bases =
     ∷ claim (maximum 0xFFFFFFFFFFFFF000) (base 0xFFFFFFFFFFFFD000) (answered 1)
     ∷ claim (maximum 0xFFFFFFFFFFFFF000) (base 0xFFFFFFFFFFFFE000) (answered 4)
     ∷ claim (maximum 0xFFFFFFFFFFFFF000) (base 0xFFFFFFFFFFFFF000) (answered 4)
+    ∷ []
+
+-- ---- the strict verdict
+
+-- the mask of the second region, in row 3: the table has a line more, and the body starts at byte 112
+abbrev pub secondMask : ℕ → List ℕ → List ℕ
+secondMask v = put 4 112 v
+
+-- a page table of this mask in row 3, behind the region: its line in the table and its body (gpa 0x300000, size 0x2000, used size 0x1000, VP index 0, VTL 0)
+abbrev pub pageTable : ℕ → List ℕ → List ℕ
+pageTable v s =
+    let body : List ℕ = 0 ∷ 0 ∷ 0 ∷ 0 ∷ 0 ∷ 0 ∷ 48 ∷ 0 ∷ 0 ∷ 0 ∷ 0 ∷ 0 ∷ 0 ∷ 32 ∷ 0 ∷ 0 ∷ 0 ∷ 0 ∷ 0 ∷ 0 ∷ 0 ∷ 16 ∷ 0 ∷ 0 ∷ 0 ∷ 0 ∷ 0 ∷ 0 ∷ 0 ∷ 0 ∷ 0 ∷ [] in
+    part 0 10 s ++ 2 ∷ 0 ∷ [] ++ part 12 32 s ++ 19 ∷ 0 ∷ 0 ∷ 0 ∷ 31 ∷ 0 ∷ 0 ∷ 0 ∷ [] ++ part 32 104 s ++ put 4 0 v body ++ drop 104 s
+
+-- row 3 twice, the second time with this mask and this VTL: 2 directive rows, and bytes 32 to 40 (the table's line of row 3) and 104 to 109 (its body) once more
+abbrev pub secondContext : ℕ → ℕ → List ℕ → List ℕ
+secondContext v level s = part 0 12 s ++ 2 ∷ 0 ∷ [] ++ part 14 40 s ++ part 32 40 s ++ drop 40 s ++ drop 104 (put 4 104 v (set s 108 level))
+
+abbrev pub strictly : List Claim
+strictly =
+    claim unchanged strict accepted
+    ∷ claim (mask 3) strict (refused 38 2 2)
+    -- two contexts that together have both bits; the second of another VTL
+    ∷ claim (λ s. secondContext 2 0 (mask 3 s)) strict accepted
+    ∷ claim (λ s. secondContext 2 1 (mask 3 s)) strict (refused 38 2 2)
+    -- the lowest of two bits, the highest bit there is
+    ∷ claim (mask 0xD) strict (refused 38 2 4)
+    ∷ claim (mask 0x80000001) strict (refused 38 2 0x80000000)
+    -- two regions with such a bit, the second alone
+    ∷ claim (λ s. secondRegion 0x102000 (mask 3 s)) strict (refused 38 2 2)
+    ∷ claim (λ s. secondMask 5 (secondRegion 0x102000 s)) strict (refused 38 3 4)
+    -- a page table alone
+    ∷ claim (pageTable 1) strict accepted
+    ∷ claim (pageTable 3) verdict accepted
+    ∷ claim (pageTable 3) strict (refused 38 3 2)
+    -- the verdict's refusals come first
+    ∷ claim (λ s. vp 1 (mask 3 s)) strict (refused 34 0 0)
+    ∷ claim (λ s. alignment 0 (mask 3 s)) strict (refused 19 2 0)
+    ∷ claim (λ s. byteMore (mask 3 s)) strict (refused 6 0 0)
     ∷ []
 
 -- every claim of the table is true

@@ -6,4 +6,5 @@ pub mod Answers
 pub mod Theorem
 pub mod Pairings
 pub mod Swap
+pub mod StrictSwap
 pub mod Needed

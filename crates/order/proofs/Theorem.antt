@@ -2,9 +2,9 @@
 use Rattle.rows.proofs.Kit.{_≡_, sym, List, ℕ, _<_}
 use Rattle.sheet.{specs.Head.{Limits, headOf}, specs.Read.{Readable, sheetRefusal}, proofs.Readable.sheet-says}
 use Rattle.sheet_headers.specs.Headers.{sheetHeaders}
-use Rattle.rules.{specs.Accepted.NotRefused, specs.Relocations.regionAt, proofs.FaultLaws.else-none, proofs.Order.same-answers, proofs.QueryLaws.number-below, proofs.SoundLaws.accepted-sound}
-use Rattle.answers.{proofs.AnswerLaws.regionsOf, specs.Verdict.verdictRefusal, specs.Relocations.{sheetInitializations, baseNumber}}
-use Rattle.order.specs.{Reordered.Reordered, Demand.{Accepted, IsRegion, numberIn, SameAnswers}, Ranges.SameRanges}
+use Rattle.rules.{specs.Accepted.NotRefused, specs.Relocations.regionAt, proofs.FaultLaws.else-none, proofs.Order.same-answers, proofs.QueryLaws.number-below, proofs.SoundLaws.accepted-sound, proofs.StrictLaws.same-bits}
+use Rattle.answers.{proofs.AnswerLaws.regionsOf, proofs.StrictLaws.strictly-accepted, specs.Verdict.verdictRefusal, specs.Relocations.{sheetInitializations, baseNumber}}
+use Rattle.order.specs.{Reordered.Reordered, Demand.{Accepted, IsRegion, numberIn, SameAnswers}, Ranges.SameRanges, Strict.SameStrict}
 use Rattle.order.proofs.{ReadableToo.{heads, readable-too}, Lists.{paired-in, headers-reordered}, Answers.{list-same, words-same, answer-same, range-same}}
 use Rattle.rules.specs.Reordered as rules
 
@@ -67,3 +67,11 @@ module _ (l : Limits) (a b : List ℕ) (ok : Readable l a) (R : Reordered a b) w
   pub same-ranges : SameRanges l a b R
   same-ranges v given i r lowest highest =
       range-same l a b v (there v) given (S .count given) _ _ (number-in a given i r) (number-in b given _ (region given i r)) (found given i r) lowest highest
+
+  -- and the strict verdict
+  pub same-strict : SameStrict l a b
+  same-strict =
+      let bits = same-bits (sheetHeaders a) (sheetHeaders b) H in (
+        λ h. let (v, e) = strictly-accepted l a .0 h in strictly-accepted l b .1 (there v, bits .0 e),
+        λ h. let (v, e) = strictly-accepted l b .0 h in strictly-accepted l a .1 (back v, bits .1 e),
+      )

@@ -41,9 +41,12 @@ platform mask type = row 1 (u 4 mask ++ 0 ∷ type ∷ u 2 1 ++ u 8 0)
 abbrev pub ccaPolicy : List ℕ → Row
 ccaPolicy opaque = row 17 (u 4 1 ++ u 8 0 ++ u 8 0 ++ opaque)
 
--- a region of two pages at this gpa, of mask 1
+-- a region of two pages of this mask at this gpa, and of mask 1
+abbrev pub maskedRegion : ℕ → ℕ → Row
+maskedRegion mask gpa = row 18 (u 4 mask ++ u 8 0x1000 ++ u 8 gpa ++ u 8 0x2000 ++ u 8 0 ++ u 8 0x200000 ++ 0 ∷ u 2 0 ++ 0 ∷ [])
+
 abbrev pub region : ℕ → Row
-region gpa = row 18 (u 4 1 ++ u 8 0x1000 ++ u 8 gpa ++ u 8 0x2000 ++ u 8 0 ++ u 8 0x200000 ++ 0 ∷ u 2 0 ++ 0 ∷ [])
+region gpa = maskedRegion 1 gpa
 
 -- a page table of two pages at this gpa, of mask 1
 abbrev pub pageTable : ℕ → Row
@@ -112,3 +115,11 @@ plain = sheetOf (platform 1 6 ∷ []) [] []
 unfoldable pub longer : List ℕ
 unfolding plain
 longer = plain ++ 0 ∷ []
+
+-- ---- a reordering of sheets that are strictly refused: a region with a bit without a context stands first, and last
+
+unfoldable pub lackingFirst : List ℕ
+lackingFirst = sheetOf (platform 1 6 ∷ []) (maskedRegion 3 0x100000 ∷ region 0x102000 ∷ []) (aarch64Vbs (1 ∷ 2 ∷ []) ∷ [])
+
+unfoldable pub lackingLast : List ℕ
+lackingLast = sheetOf (platform 1 6 ∷ []) (region 0x102000 ∷ maskedRegion 3 0x100000 ∷ []) (aarch64Vbs (1 ∷ 2 ∷ []) ∷ [])
