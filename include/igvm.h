@@ -24,7 +24,7 @@ extern "C" {
 #endif
 
 /* The library's version; docs/CHANGELOG.md of the repository says what changed. */
-enum { IGVM_VERSION_MAJOR = 0, IGVM_VERSION_MINOR = 5, IGVM_VERSION_PATCH = 0 };
+enum { IGVM_VERSION_MAJOR = 0, IGVM_VERSION_MINOR = 6, IGVM_VERSION_PATCH = 0 };
 
 /* Limits: a sheet with more rows in a list, or with more bytes, is refused by IGVM_ERROR_LIMIT_EXCEEDED.
  *
@@ -42,7 +42,7 @@ enum {
 /* Numbers that every answer has. */
 enum { IGVM_NUMBER = 0, IGVM_ROW = 1, IGVM_DETAIL = 2 };
 
-/* Refusals, by number: 1 to 37, and 50. A later library may give more. */
+/* Refusals, by number: 1 to 38, and 50. A later library may give more. */
 enum {
     IGVM_ACCEPTED = 0,
     IGVM_ERROR_SHEET_ENDS_EARLY = 1,
@@ -82,6 +82,7 @@ enum {
     IGVM_ERROR_QUERY_MASK_ZERO = 35,
     IGVM_ERROR_NO_SUCH_REGION = 36,
     IGVM_ERROR_TOO_FEW_WORDS_LENT = 37,
+    IGVM_ERROR_BIT_WITHOUT_VP_CONTEXT = 38,
     IGVM_ERROR_LOWEST_ABOVE_HIGHEST = 50
 };
 
@@ -89,6 +90,16 @@ enum {
 enum { IGVM_PLATFORM_ROWS = 3, IGVM_INITIALIZATION_ROWS = 4, IGVM_DIRECTIVE_ROWS = 5, IGVM_VERDICT_NUMBERS = 6 };
 uint64_t igvm_verdict(const uint8_t *sheet, size_t sheet_len, uint32_t which);
 uint64_t igvm_verdict_numbers(const uint8_t *sheet, size_t sheet_len, uint8_t *numbers, size_t numbers_len);
+
+/* Whether the sheet is accepted, and every platform of a region has its context: for each bit of the mask of each region, page-table regions included, there is a VBS
+ * context of the region's VTL with that bit. The verdict above asks for one shared bit. Each bit counts, whether or not a platform row has it, and the bits of one region
+ * may have different contexts.
+ *
+ * Whatever igvm_verdict refuses is refused alike, with its row and detail. Then comes IGVM_ERROR_BIT_WITHOUT_VP_CONTEXT, which this call alone gives: the row is that of
+ * the first region that has a bit without a context, the detail its lowest such bit, as a mask. Accepted, the numbers are those of igvm_verdict. An answer has
+ * IGVM_VERDICT_NUMBERS. Before 0.6.0 there was no such call. */
+uint64_t igvm_strict_verdict(const uint8_t *sheet, size_t sheet_len, uint32_t which);
+uint64_t igvm_strict_verdict_numbers(const uint8_t *sheet, size_t sheet_len, uint8_t *numbers, size_t numbers_len);
 
 /* The regions of a mask in header order, each as eight words in the lent bytes: base, size, alignment, minimum, maximum, flags, VP index, VTL. 3 how many
  * regions, 4 whether there is a page-table region (1 or 0), 5 its gpa, 6 its size, 7 its used size, 8 its VP index, 9 its VTL. */

@@ -7,6 +7,7 @@ use crate::{BaseCheck, BaseRange, Refusal, Vtl};
 mod linked {
     extern "C" {
         pub fn igvm_verdict_numbers(sheet: *const u8, sheet_len: usize, numbers: *mut u8, numbers_len: usize) -> u64;
+        pub fn igvm_strict_verdict_numbers(sheet: *const u8, sheet_len: usize, numbers: *mut u8, numbers_len: usize) -> u64;
         pub fn igvm_relocations_numbers(
             sheet: *const u8,
             sheet_len: usize,
@@ -52,6 +53,7 @@ mod linked {
     #[cfg(test)]
     extern "C" {
         pub fn igvm_verdict(sheet: *const u8, sheet_len: usize, which: u32) -> u64;
+        pub fn igvm_strict_verdict(sheet: *const u8, sheet_len: usize, which: u32) -> u64;
         pub fn igvm_relocations(sheet: *const u8, sheet_len: usize, mask: u32, words: *mut u8, words_len: usize, which: u32) -> u64;
         pub fn igvm_relocation_base_valid(sheet: *const u8, sheet_len: usize, mask: u32, region: u64, base: u64, which: u32) -> u64;
         pub fn igvm_relocation_base_range(
@@ -77,6 +79,11 @@ fn numbers<const COUNT: usize>(call: impl FnOnce(&mut [u8]) -> u64) -> [u64; COU
 fn verdict_numbers(sheet: &[u8]) -> [u64; 6] {
     // SAFETY: the pointers and the lengths are those of two slices that share nothing; the sheet is only read.
     numbers(|lent| unsafe { linked::igvm_verdict_numbers(sheet.as_ptr(), sheet.len(), lent.as_mut_ptr(), lent.len()) })
+}
+
+fn strict_verdict_numbers(sheet: &[u8]) -> [u64; 6] {
+    // SAFETY: the pointers and the lengths are those of two slices that share nothing; the sheet is only read.
+    numbers(|lent| unsafe { linked::igvm_strict_verdict_numbers(sheet.as_ptr(), sheet.len(), lent.as_mut_ptr(), lent.len()) })
 }
 
 fn relocations_numbers(sheet: &[u8], mask: u32, words: &mut [u8]) -> [u64; 10] {
@@ -128,6 +135,12 @@ pub struct Counts {
 }
 
 impl Counts {
+    /// The counts of a verdict's numbers, unless they say that the sheet is refused.
+    fn from_numbers(sheet: &[u8], numbers: [u64; 6]) -> Result<Counts, Refusal> {
+        let [_, _, _, platform_headers, initialization_headers, directive_headers] = accepted(sheet, numbers)?;
+        Ok(Counts { platform_headers, initialization_headers, directive_headers })
+    }
+
     /// The line that the program `admit` writes, as `accepted 1 1 1`.
     pub fn line(&self) -> String {
         format!("accepted {} {} {}", self.platform_headers, self.initialization_headers, self.directive_headers)
@@ -140,8 +153,52 @@ impl Counts {
 ///
 /// The sheet is refused: any of [`Error`](crate::Error) 1 to 34.
 pub fn verdict(sheet: &[u8]) -> Result<Counts, Refusal> {
-    let [_, _, _, platform_headers, initialization_headers, directive_headers] = accepted(sheet, verdict_numbers(sheet))?;
-    Ok(Counts { platform_headers, initialization_headers, directive_headers })
+    Counts::from_numbers(sheet, verdict_numbers(sheet))
+}
+
+/// Whether the sheet is accepted, and every platform of a region has its context: for each bit of the mask of each region, page-table regions included, there is
+/// a VBS context of the region's VTL with that bit. [`verdict`] asks for one shared bit. Each bit counts, whether or not a platform header has it, and the bits of
+/// one region may have different contexts.
+///
+/// Accepted, the counts are those of [`verdict`]. Crate igvm has no such function.
+///
+/// ```
+/// use sapyullu::*;
+///
+/// let platform = |compatibility_mask, platform_type| {
+///     let (highest_vtl, platform_version, shared_gpa_boundary) = (0, 1, 0);
+///     let header = IGVM_VHS_SUPPORTED_PLATFORM { compatibility_mask, highest_vtl, platform_type, platform_version, shared_gpa_boundary };
+///     IgvmPlatformHeader::SupportedPlatform(header)
+/// };
+/// let context = |compatibility_mask| IgvmDirectiveHeader::X64VbsVpContext { vtl: Vtl::Vtl0, registers: vec![], compatibility_mask };
+/// let mut sheet = Sheet {
+///     revision: IgvmRevision::V1,
+///     platform_headers: vec![platform(1, IgvmPlatformType::VSM_ISOLATION), platform(2, IgvmPlatformType::SEV_SNP)],
+///     initialization_headers: vec![IgvmInitializationHeader::PageTableRelocationRegion {
+///         compatibility_mask: 3,
+///         gpa: 0x300000,
+///         size: 0x2000,
+///         used_size: 0x1000,
+///         vp_index: 0,
+///         vtl: Vtl::Vtl0,
+///     }],
+///     directive_headers: vec![context(1)],
+/// };
+/// assert!(verdict(&sheet.bytes()?).is_ok());
+/// let refusal = strict_verdict(&sheet.bytes()?).unwrap_err();
+/// assert_eq!((refusal.error, refusal.detail), (Error::BitWithoutVpContext, 2));
+/// assert_eq!(refusal.place, Some(Place { list: List::Initialization, index: 0 }));
+/// sheet.directive_headers.push(context(2));
+/// assert_eq!(strict_verdict(&sheet.bytes()?)?.line(), "accepted 2 1 2");
+/// # Ok::<(), Box<dyn std::error::Error>>(())
+/// ```
+///
+/// # Errors
+///
+/// The sheet is refused, by what [`verdict`] says of it; or it is accepted there, and a region's mask has a bit without a context
+/// ([`BitWithoutVpContext`](crate::Error::BitWithoutVpContext)). The row is that of the first such region, the detail its lowest such bit, as a mask.
+pub fn strict_verdict(sheet: &[u8]) -> Result<Counts, Refusal> {
+    Counts::from_numbers(sheet, strict_verdict_numbers(sheet))
 }
 
 /// A relocatable region. It has the fields and the methods of crate igvm's, and can be made from one field by field. One method says more than there:
@@ -404,6 +461,10 @@ mod tests {
             // SAFETY: the pointer and the length are those of a slice, which is only read.
             let single = one_by_one(|which| unsafe { linked::igvm_verdict(sheet.as_ptr(), sheet.len(), which) });
             assert_eq!(verdict_numbers(&sheet), single);
+            // SAFETY: the pointer and the length are those of a slice, which is only read.
+            let strict = one_by_one(|which| unsafe { linked::igvm_strict_verdict(sheet.as_ptr(), sheet.len(), which) });
+            assert_eq!(strict_verdict_numbers(&sheet), strict);
+            assert!(strict[0] == 0 || strict[3..] == [0; 3], "a refusal has no counts");
         }
     }
 
@@ -470,6 +531,9 @@ mod tests {
         let mut lent = [0xA5; 47];
         // SAFETY: the pointers and the lengths are those of two slices that share nothing; the sheet is only read.
         let number = unsafe { linked::igvm_verdict_numbers(sheet.as_ptr(), sheet.len(), lent.as_mut_ptr(), lent.len()) };
+        assert_eq!((number, lent), (2, [0xA5; 47]));
+        // SAFETY: as above.
+        let number = unsafe { linked::igvm_strict_verdict_numbers(sheet.as_ptr(), sheet.len(), lent.as_mut_ptr(), lent.len()) };
         assert_eq!((number, lent), (2, [0xA5; 47]));
         let mut lent = [0xA5; 31];
         // SAFETY: as above.

@@ -156,7 +156,7 @@ pub enum IgvmInitializationHeader {
     },
     /// A region that the loader may move.
     RelocatableRegion {
-        /// The platforms that it is for.
+        /// The platforms that it is for. The strict verdict asks for a context on each (38).
         compatibility_mask: u32,
         /// What a new base must be a multiple of: a multiple of 4096 (18), not 0 (19).
         relocation_alignment: u64,
@@ -181,7 +181,7 @@ pub enum IgvmInitializationHeader {
     },
     /// The region of the page tables that are built anew after a move.
     PageTableRelocationRegion {
-        /// The platforms that it is for. A platform has at most one such region (26).
+        /// The platforms that it is for. A platform has at most one such region (26), and the strict verdict asks for a context on each (38).
         compatibility_mask: u32,
         /// Where the region lies: a multiple of 4096 (21).
         gpa: u64,

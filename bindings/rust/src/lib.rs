@@ -1,9 +1,10 @@
 //! Admission of IGVM images for a host: `libigvm.a`, whose answers are proved, behind safe functions.
 //!
 //! A [`Sheet`] holds the values of an image's headers, and [`Sheet::bytes`] writes them as the library reads them. [`verdict`] says whether the image is
-//! accepted, and [`relocations`] which regions of a mask may be relocated; the methods of a region say where to, and by a [`BaseCheck`] why not. Where its
-//! base is known only as a range, [`relocation_base_range`] says by a [`BaseRange`] whether it may go to all of it. Each takes any bytes, makes one call of the
-//! library, and answers or gives one [`Refusal`], with its row, its list and index there, its reason and its cure.
+//! accepted, [`strict_verdict`] whether each of its regions has a context for every platform too, and [`relocations`] which regions of a mask may be relocated;
+//! the methods of a region say where to, and by a [`BaseCheck`] why not. Where its base is known only as a range, [`relocation_base_range`] says by a [`BaseRange`]
+//! whether it may go to all of it. Each takes any bytes, makes one call of the library, and answers or gives one [`Refusal`], with its row, its list and index
+//! there, its reason and its cure.
 //!
 //! ```
 //! use sapyullu::*;
@@ -52,7 +53,7 @@ mod sheet;
 
 pub use base_check::BaseCheck;
 pub use base_range::BaseRange;
-pub use calls::{contains, relocation_base_range, relocation_base_valid, relocations, relocations_into, verdict};
+pub use calls::{contains, relocation_base_range, relocation_base_valid, relocations, relocations_into, strict_verdict, verdict};
 pub use calls::{Counts, Filled, IgvmRelocatableRegion, PageTableRegion, Relocations, REGION_BYTES};
 pub use headers::{Arch, IgvmDirectiveHeader, IgvmInitializationHeader, IgvmPlatformHeader, IgvmRevision, Vtl};
 pub use headers::{IgvmPageDataType, IgvmPlatformType, IGVM_VHS_PARAMETER, IGVM_VHS_PARAMETER_INSERT, IGVM_VHS_SUPPORTED_PLATFORM};

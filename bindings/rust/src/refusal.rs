@@ -27,8 +27,8 @@ use Detail::{Decimal, Hexadecimal};
 
 macro_rules! errors {
     ($($number:literal $name:ident, $sentence:literal, $cure:literal, $detail:expr;)*) => {
-        /// What is wrong. The names are those of the errors of crate igvm 0.5.0 (`Error` and `BinaryHeaderError`), but for 1 to 6, 19, 27, 28, 35 to 37
-        /// and 50, which it does not have. There is none of 38 to 49.
+        /// What is wrong. The names are those of the errors of crate igvm 0.5.0 (`Error` and `BinaryHeaderError`), but for 1 to 6, 19, 27, 28, 35 to 38
+        /// and 50, which it does not have. There is none of 39 to 49.
         #[derive(Debug, Clone, Copy, PartialEq, Eq, Hash)]
         #[non_exhaustive]
         pub enum Error {
@@ -162,6 +162,8 @@ errors! {
         "ask for a number below the mask's count of relocatable regions", Detail::None;
     37 TooFewWordsLent, "fewer bytes are lent than the regions take",
         "lend 64 bytes for each region; 4,096 are enough for any sheet", Detail::None;
+    38 BitWithoutVpContext, "the region's mask has a bit that no VBS context of its VTL has",
+        "list for each bit of the region's mask a VBS context of its VTL with that bit, or take the bit out of the region's mask", Hexadecimal("mask");
     50 LowestAboveHighest, "the range's lowest base is above its highest",
         "give the lower of the two bases as the lowest, the higher as the highest", Detail::None;
 }

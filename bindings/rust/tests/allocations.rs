@@ -39,7 +39,8 @@ fn a_list_of_regions_is_one_allocation_and_other_answers_are_none() {
         let checks = relocation_base_valid(&sheet, 1, 0, 0).unwrap().is_valid() && contains(&sheet, 1, 0, 0).unwrap();
         let ranges = relocation_base_range(&sheet, 1, 0, 0, 0).is_ok() && relocation_base_range(&sheet, 1, 0, 1, 0).is_err();
         let words = region.contains(0) && region.relocation_base_valid(0).is_valid();
-        checks && ranges && words && verdict(&sheet).is_ok() && verdict(&[]).is_err()
+        let verdicts = verdict(&sheet).is_ok() && verdict(&[]).is_err() && strict_verdict(&sheet).is_ok() && strict_verdict(&[]).is_err();
+        checks && ranges && words && verdicts
     });
     assert!(answers);
     assert_eq!(made, []);

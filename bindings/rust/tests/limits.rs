@@ -40,6 +40,7 @@ fn over_a_limit(sheet: &[u8]) {
     assert_eq!(refusal.error, Error::LimitExceeded);
     let mut lent = [0xA5; REGION_BYTES];
     assert_eq!(verdict(sheet), Err(refusal));
+    assert_eq!(strict_verdict(sheet), Err(refusal));
     assert_eq!(relocations(sheet, 0), Err(refusal));
     assert_eq!(relocations_into(sheet, 1, &mut lent), Err(refusal));
     assert_eq!(lent, [0xA5; REGION_BYTES]);
@@ -65,6 +66,7 @@ fn a_firmware_of_6000_pages_is_accepted() {
     let sheet = with_directives(&directives);
     assert!(sheet.len() > FORMER_LIMIT);
     assert_eq!(line(&sheet), "accepted 1 1 6001");
+    assert_eq!(strict_verdict(&sheet), verdict(&sheet));
     assert_eq!(relocations(&sheet, 1), relocations(&image_b().bytes().unwrap(), 1));
     assert_eq!(relocation_base_valid(&sheet, 1, 0, 0x1F_E000), Ok(BaseCheck::Valid));
     assert_eq!(relocation_base_range(&sheet, 1, 0, 0, 0x1F_E000), Ok(BaseRange::Always));
@@ -121,6 +123,7 @@ fn a_thread_with_128_kib_of_stack_is_enough() {
     let refused: Vec<_> = (1..8192).chain([1]).map(area).collect();
     for (sheet, count) in [(with_directives(&accepted), Some(1)), (with_directives(&refused), None)] {
         let calls = move || {
+            assert_eq!(strict_verdict(&sheet), verdict(&sheet));
             assert_eq!(relocation_base_valid(&sheet, 1, 0, 0).is_ok(), verdict(&sheet).is_ok());
             assert_eq!(relocation_base_range(&sheet, 1, 0, 0, 0).is_ok(), verdict(&sheet).is_ok());
             relocations(&sheet, 1).ok().map(|found| found.regions.len())

@@ -5,7 +5,7 @@ use std::collections::BTreeSet;
 
 /// The refusals that have a name.
 fn named() -> impl Iterator<Item = u64> {
-    (1..=37).chain([50])
+    (1..=38).chain([50])
 }
 
 #[test]
@@ -17,6 +17,7 @@ fn numbers_and_errors_go_together() {
     }
     assert_eq!(Error::from_number(1), Error::SheetEndsEarly);
     assert_eq!(Error::from_number(37), Error::TooFewWordsLent);
+    assert_eq!(Error::from_number(38), Error::BitWithoutVpContext);
     assert_eq!(Error::from_number(50), Error::LowestAboveHighest);
 }
 
@@ -27,7 +28,7 @@ fn names_are_the_rusts_where_it_has_one() {
     assert_eq!(name(14), "MultiplePlatformHeadersWithSameIsolation");
     assert_eq!(name(24), "InvalidHeaderArch");
     assert_eq!(name(34), "NoMatchingVpContext");
-    assert_eq!([38, 49, 51].map(name), ["Unknown"; 3]);
+    assert_eq!([39, 49, 51].map(name), ["Unknown"; 3]);
     assert!(named().all(|number| name(number) == format!("{:?}", Error::from_number(number))));
 }
 
@@ -67,7 +68,7 @@ fn a_refusal_in_a_sheet_says_its_list_and_index() {
 #[test]
 fn every_error_has_a_cure_of_its_own() {
     let cures: BTreeSet<&str> = named().chain([0]).map(|number| Error::from_number(number).cure()).collect();
-    assert_eq!(cures.len(), 39);
+    assert_eq!(cures.len(), 40);
     let is_sentence = |cure: &str| cure.starts_with(|c: char| c.is_ascii_lowercase()) && !cure.ends_with('.');
     assert!(cures.iter().all(|cure| is_sentence(cure)));
     assert_eq!(Error::NoPlatformHeaders.cure(), "list at least one platform");
