@@ -1,5 +1,5 @@
-"""The verdict of document 01 on a sheet, with the limits of request 1, the refusals of its queries, the base check of request 7, and the range of request 13, written from
-the papers alone and as plainly as it goes.
+"""The verdict of document 01 on a sheet, with the limits of request 1, the strict verdict of request 3, the refusals of its queries, the base check of request 7, and the
+range of request 13, written from the papers alone and as plainly as it goes.
 
 It serves one purpose: `sheets.py --check` holds the lines that are written by hand beside the samples against it.
 Rows are numbered from 1 across the lists, as in the paper.
@@ -28,8 +28,8 @@ KINDS |= {kind: (2, 8, True) for kind in range(34, 44)}
 KINDS |= {44: (2, 17, True), 45: (2, 14, False), 46: (2, 6, False), 47: (2, 5, False), 48: (2, 5, False)}
 KINDS |= {49: (2, 6, False), 50: (2, 16, True), 51: (2, 16, True), 52: (2, 4, False), 53: (2, 4, False)}
 
-# The refusals there are. 38 to 49 are left to later requests.
-REFUSALS = (*range(1, 38), 50)
+# The refusals there are. 39 to 49 are left to later requests.
+REFUSALS = (*range(1, 39), 50)
 
 LIMITS = (16, 64, 8192)
 BYTE_LIMIT = 67108864
@@ -177,25 +177,43 @@ def directive_rows(arch, page_tables, rows):
 
 
 def admitted(s):
-    """The three lists of an accepted sheet and its kind 18 regions: each a mask and where it may go; else Refused is raised."""
+    """The three lists of an accepted sheet, its kind 18 regions, each a mask and where it may go, and its VBS contexts, each a mask and a VTL; else Refused is raised."""
     arch, lists = read(s)
     of_mask = platform_rows(arch, lists[0])
     regions, page_tables, bounds = initialization_rows(arch, of_mask, lists[1])
     contexts = directive_rows(arch, page_tables, lists[2])
     for mask, _, _, vp, vtl in regions + page_tables:
         refuse(vp != 0 or not any(mask & mask2 and vtl == vtl2 for mask2, vtl2 in contexts), 34)
-    return lists, [(mask, where) for (mask, *_), where in zip(regions, bounds)]
+    return lists, [(mask, where) for (mask, *_), where in zip(regions, bounds)], contexts
+
+
+def counted(lists):
+    return "accepted %d %d %d" % tuple(map(len, lists))
 
 
 def verdict(s):
     """The counts of rows of an accepted sheet."""
-    lists, _ = admitted(s)
-    return "accepted %d %d %d" % tuple(map(len, lists))
+    lists, *_ = admitted(s)
+    return counted(lists)
+
+
+def strict_verdict(s):
+    """38, where the verdict accepts: a region of either kind has a mask bit that no VBS context of its VTL has. The row is the first such region's, the detail its
+    lowest such bit."""
+    lists, _, contexts = admitted(s)
+    for row, kind, body in lists[1]:
+        if kind in (18, 19):
+            # In both kinds the mask comes first and the VTL last.
+            mask, vtl = int.from_bytes(body[:4], "little"), body[-1]
+            for bit in range(32):
+                served = any(mask2 & 1 << bit and vtl == vtl2 for mask2, vtl2 in contexts)
+                refuse(mask & 1 << bit and not served, 38, row, 1 << bit)
+    return counted(lists)
 
 
 def matching(s, mask):
     """35: where the regions may go that match the query mask, those whose mask holds every bit of it."""
-    _, regions = admitted(s)
+    _, regions, _ = admitted(s)
     refuse(mask == 0, 35)
     return [where for mask2, where in regions if mask2 & mask == mask]
 
@@ -252,14 +270,14 @@ def base_range(s, mask, region, lowest, highest):
     return "answered 3"
 
 
-CALLS = {"verdict": verdict, "relocations": relocations, "relocation_base_valid": base_check, "relocation_base_range": base_range,
-         "contains": contains}
+CALLS = {"verdict": verdict, "strict_verdict": strict_verdict, "relocations": relocations, "relocation_base_valid": base_check,
+         "relocation_base_range": base_range, "contains": contains}
 
 
 def line(s, call="verdict"):
     """The line that `admit` writes of a sheet, where the call is the verdict; a sheet of more than 65,536 bytes is answered as by the call.
-    Another call has the names of its numbers, each before its number: `relocations mask 1 lent 64`. Where it is refused, the line says so likewise; of a base
-    or a range that is checked, it says which answer is given, by its number."""
+    Another call has the names of its numbers, each before its number, if it takes some: `relocations mask 1 lent 64`. Where it is refused, the line says so
+    likewise; of a base or a range that is checked, it says which answer is given, by its number."""
     name, *words = call.split()
     try:
         return CALLS[name](s, **dict(zip(words[::2], map(int, words[1::2]))))

@@ -12,7 +12,7 @@ The line beside a sample is written by hand from the paper. `--check` holds it a
     tools/sheets.py --list               each sample's name, line and description
     tools/sheets.py --write DIR NAME..   write these samples (no NAME: all of up to 65,536 bytes) into DIR, and print 'name: line' for each
     tools/sheets.py --gate               write args, data/ and stdout of the program crates/admit_sheets
-    tools/sheets.py --samples            write the folder samples: one sheet for each refusal, some accepted ones and some checks of bases and ranges, with a README
+    tools/sheets.py --samples            write the folder samples: one sheet for each refusal, some accepted ones and some of other calls than the verdict, with a README
 """
 
 import sys
@@ -517,6 +517,16 @@ accepted("mask-3", "1 1 1", "region mask 3, context mask 1: one shared bit is en
 accepted("vtls", "1 3 3", "a region of each VTL, a context for each", B.plus(
     region(gpa=0x102000, vtl=1), region(gpa=0x104000, vtl=2)
 ).directives(x64_vbs(vtl=2), x64_vbs(vtl=0), x64_vbs(vtl=1)))
+accepted("mask-3-two-contexts", "1 1 2", "region mask 3, contexts of masks 1 and 2", B.initializations(region(mask=3)).plus(x64_vbs(mask=2)))
+accepted("mask-3-other-vtl", "1 1 2", "region mask 3, context mask 1, and context mask 2 of VTL 1", B.initializations(region(mask=3)).plus(x64_vbs(mask=2, vtl=1)))
+accepted("mask-3-other-contexts", "1 1 3", "region mask 3, context mask 1, and contexts of mask 2 that are no VBS contexts, kinds 45 and 46",
+         B.initializations(region(mask=3)).plus(snp_vp_context(mask=2), x64_native(mask=2)))
+accepted("mask-80000001", "1 1 1", "region of the highest and the lowest mask bit, context mask 1", B.initializations(region(mask=0x80000001)))
+accepted("page-table-mask-3", "1 2 1", "page table of mask 3, context mask 1", B.plus(page_table(mask=3)))
+accepted("page-table-mask-5-first", "1 2 1", "page table of mask 5, then region mask 3, context mask 1", B.initializations(page_table(mask=5), region(mask=3)))
+accepted("page-table-mask-5-last", "1 2 1", "region mask 3, then page table of mask 5, context mask 1", B.initializations(region(mask=3), page_table(mask=5)))
+accepted("masks-1-13-3", "1 3 1", "regions of masks 1, 13 and 3, context mask 1", B.plus(region(mask=13, gpa=0x102000), region(mask=3, gpa=0x104000)))
+refused("34-mask-3", 0, 0, "region mask 3, context mask 1, then a region without its context", B.initializations(region(mask=3), region(gpa=0x102000, vtl=1)))
 accepted("context-late", "1 1 3", "the context behind other rows", B.directives(parameter_area(), page_data(), x64_vbs()))
 refused("32-before-34", 4, 0, "34 last: context mask 2, and row 4 names no area", B.directives(x64_vbs(mask=2), vp_count()))
 
@@ -704,10 +714,19 @@ SHOWN = [
     Shown("32-no-area", "32-kind-34", "a VpCount that names an area which is not allocated"),
     Shown("33-insert-in-page-table", "33-gpa", "a parameter area inserted at the page-table region's gpa"),
     Shown("34-no-context", "34-mask", "a region of mask 1, a context of mask 2"),
+    Shown("strict-34-first", "34-mask-3", "a region of mask 3 and a context of mask 1, then a region of VTL 1 without a context: 34 comes before 38",
+          "strict_verdict", "refused 34 row 0 detail 0"),
     Shown("35-mask-zero", "b", "a query of mask 0", "relocations mask 0 lent 64", "refused 35 row 0 detail 0"),
     Shown("36-region-1", "b", "region 1 where there is one region: numbers count from 0",
           "relocation_base_valid mask 1 region 1 base 1048576", "refused 36 row 0 detail 0"),
     Shown("37-seven-words", "b", "seven words lent, where a region takes eight", "relocations mask 1 lent 56", "refused 37 row 0 detail 0"),
+    Shown("38-bit-without-context", "mask-3", "image B with region mask 3, a context of mask 1; the detail is the mask bit",
+          "strict_verdict", "refused 38 row 2 detail 2"),
+    Shown("38-first-of-two-regions", "masks-1-13-3", "regions of masks 1, 13 and 3, a context of mask 1: 4 and 8 of the second have none, and 2 of the third",
+          "strict_verdict", "refused 38 row 3 detail 4"),
+    Shown("38-page-table", "page-table-mask-3", "a region of mask 1, a page-table region of mask 3, a context of mask 1", "strict_verdict", "refused 38 row 3 detail 2"),
+    Shown("38-context-of-another-vtl", "mask-3-other-vtl", "a region of mask 3 and VTL 0, a context of mask 1 and VTL 0, one of mask 2 and VTL 1",
+          "strict_verdict", "refused 38 row 2 detail 2"),
     Shown("50-lowest-above-highest", "b", "lowest 0x101000, highest 0x100000",
           "relocation_base_range mask 1 region 0 lowest 1052672 highest 1048576", "refused 50 row 0 detail 0"),
     Shown("base-1-valid", "one-base", "base 0x100000, the minimum, from where the region ends at its maximum, 0x102000",
@@ -730,20 +749,21 @@ SHOWN = [
           "relocation_base_range mask 1 region 0 lowest 0 highest 2093056", "answered 3"),
     Shown("range-3-to-2-64", "maximum-top", "0xFFFFFFFFFFFFD000 to 2^64 - 1: base and size add up to 2^64 - 0x1000, the maximum, then to 2^64 and to 2^64 + 0x1000",
           "relocation_base_range mask 1 region 0 lowest 18446744073709539328 highest 18446744073709551615", "answered 3"),
+    Shown("strict-two-contexts", "mask-3-two-contexts", "a region of mask 3, contexts of masks 1 and 2", "strict_verdict", "accepted 1 1 2"),
 ]
 
 FOLDER = REPOSITORY / "samples"
 README = """# Sample sheets
 
-One sheet for each refusal, some that are accepted, and some for whose region a base or a range of bases is proposed. `admit` answers the verdict:
+One sheet for each refusal, some that are accepted, some for whose region a base or a range of bases is proposed, and some for the strict verdict. `admit` answers the verdict:
 
     rt check admit && target/bin/admit < samples/19-alignment-zero.sheet
 
 It takes up to 65,536 bytes and refuses by 3 what is longer: `accepted-largest-lists`, `accepted-6000-pages`, `accepted-8192-directives` and `03-8193-directives`, whose answers beside them are those of the library's
-call and of the examples in Rust and in C. The verdict accepts 35 to 37 and 50; it is the call beside them that is refused (`lent` is in bytes). It accepts the sheets `base-..` and `range-..` too. The call
+call and of the examples in Rust and in C. The verdict accepts 35 to 38 and 50; it is the call beside them that is refused (`lent` is in bytes). It accepts the sheets `base-..` and `range-..` too. The call
 beside them checks a base or a range, and `answered` stands in front of the number of its answer. Of a base: 1 valid, 2 unaligned, 3 below the minimum, 4 above the maximum, the first that applies. Of a range: 1 always,
-2 never, 3 sometimes. `docs/SHEET.md` says how a sheet is written, when a base is valid and what is said of a range, `docs/REFUSALS.md` what each refusal means and how to mend it.
-`tools/sheets.py --samples` writes this folder, and `tools/sheets.py --check` holds it to the samples and the lines of its list.
+2 never, 3 sometimes. `strict_verdict` asks for a context for each bit of a region's mask besides; the examples make it with `--strict`. `docs/SHEET.md` says how a sheet is written, when a base is valid and what is said
+of a range, `docs/REFUSALS.md` what each refusal means and how to mend it. `tools/sheets.py --samples` writes this folder, and `tools/sheets.py --check` holds it to the samples and the lines of its list.
 
 | file | call | answer | what it shows |
 |---|---|---|---|

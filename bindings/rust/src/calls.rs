@@ -457,6 +457,7 @@ mod tests {
 
     #[test]
     fn a_verdicts_numbers_are_those_of_the_calls_by_which() {
+        let mut refusals = BTreeSet::new();
         for sheet in sheets() {
             // SAFETY: the pointer and the length are those of a slice, which is only read.
             let single = one_by_one(|which| unsafe { linked::igvm_verdict(sheet.as_ptr(), sheet.len(), which) });
@@ -465,7 +466,9 @@ mod tests {
             let strict = one_by_one(|which| unsafe { linked::igvm_strict_verdict(sheet.as_ptr(), sheet.len(), which) });
             assert_eq!(strict_verdict_numbers(&sheet), strict);
             assert!(strict[0] == 0 || strict[3..] == [0; 3], "a refusal has no counts");
+            refusals.insert(strict[0]);
         }
+        assert_eq!(refusals.into_iter().collect::<Vec<_>>(), (0..=34).chain([38]).collect::<Vec<_>>());
     }
 
     #[test]

@@ -34,6 +34,7 @@ impl Sample {
         let number = |word: &str| word.parse::<u64>().unwrap();
         match words[..] {
             ["verdict"] => verdict(&sheet).map(|counts| counts.line()),
+            ["strict_verdict"] => strict_verdict(&sheet).map(|counts| counts.line()),
             ["relocations", "mask", mask, "lent", lent] => {
                 let mut lent = vec![0; number(lent) as usize];
                 relocations_into(&sheet, number(mask) as u32, &mut lent).map(|_| "answered".to_string())
@@ -72,17 +73,18 @@ fn every_refusal_has_a_sample_and_a_name() {
     let mut numbers: Vec<u64> = refusals.iter().map(|error| error.number()).collect();
     assert!(numbers.windows(2).all(|pair| pair[0] <= pair[1]), "the list has them in order");
     numbers.dedup();
-    assert_eq!(numbers, (1..=37).chain([50]).collect::<Vec<_>>());
+    assert_eq!(numbers, (1..=38).chain([50]).collect::<Vec<_>>());
     let names: BTreeSet<&str> = refusals.iter().map(|error| error.name()).collect();
-    assert_eq!(names.len(), 38);
+    assert_eq!(names.len(), 39);
     assert!(!names.contains("Unknown"));
 }
 
 #[test]
-fn a_query_of_a_refused_sheet_gives_the_verdicts_refusal() {
+fn every_other_call_gives_the_verdicts_refusal_of_a_refused_sheet() {
     for sample in samples() {
         let sheet = sample.sheet();
         if let Err(refusal) = verdict(&sheet) {
+            assert_eq!(strict_verdict(&sheet), Err(refusal), "{}", sample.file);
             assert_eq!(relocations(&sheet, 0), Err(refusal), "{}", sample.file);
             assert_eq!(relocation_base_valid(&sheet, 1, 9, 0), Err(refusal), "{}", sample.file);
             assert_eq!(relocation_base_range(&sheet, 1, 9, 1, 0), Err(refusal), "{}", sample.file);
