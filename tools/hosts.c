@@ -1,7 +1,7 @@
 /* Holds libigvm.a to what include/igvm.h says beside the proved contracts: calls and their siblings agree, on several threads at once, within IGVM_STACK_BYTES of
- * stack, a base check answers one of the four, a range of bases one of the three and as the base check at its ends, and lent bytes that overlap the sheet get what others
- * get. The arguments are files of sheets. It writes the stack that each call takes on four images made here; the last line is `N sheets, S bytes of stack`, the most that
- * any call took. */
+ * stack, the strict verdict is the verdict but for a bit of a region's mask that no context has, a base check answers one of the four, a range of bases one of the three
+ * and as the base check at its ends, and lent bytes that overlap the sheet get what others get. The arguments are files of sheets. It writes the stack that each call
+ * takes on four images made here; the last line is `N sheets, S bytes of stack`, the most that any call took. */
 #define _GNU_SOURCE
 #include <pthread.h>
 #include <stdio.h>
@@ -28,11 +28,14 @@ static void hold(int test, const char *file, const char *what) {
     exit(1);
 }
 
-static uint64_t word(const uint8_t *bytes, size_t k) {
+/* The number of so many bytes at this place. */
+static uint64_t field(const uint8_t *bytes, size_t at, size_t width) {
     uint64_t v = 0;
-    for (size_t i = 8; i-- > 0;) v = v << 8 | bytes[8 * k + i];
+    for (size_t i = width; i-- > 0;) v = v << 8 | bytes[at + i];
     return v;
 }
+
+static uint64_t word(const uint8_t *bytes, size_t k) { return field(bytes, 8 * k, 8); }
 
 /* The sheet with room behind it; as many bytes as are lent for words. */
 static uint8_t *read_sheet(const char *file, size_t *n) {
@@ -52,12 +55,49 @@ static void hold_numbers(const char *file, const uint8_t *numbers, size_t n, uin
     hold(numbers[8 * n] == PAINT, file, "the sibling puts more than the numbers");
 }
 
-static void verdict(const char *file, const uint8_t *sheet, size_t n) {
+/* The numbers of a verdict by one of the two calls, which its sibling puts too, if all are lent, and where they overlap the sheet. */
+static void verdict(const char *file, const uint8_t *sheet, size_t n, uint8_t *overlapping, uint64_t (*call)(const uint8_t *, size_t, uint32_t),
+                    uint64_t (*sibling)(const uint8_t *, size_t, uint8_t *, size_t), uint64_t *each) {
     uint8_t numbers[8 * IGVM_VERDICT_NUMBERS + 1];
-    uint64_t each[IGVM_VERDICT_NUMBERS];
     memset(numbers, PAINT, sizeof numbers);
-    for (uint32_t k = 0; k < IGVM_VERDICT_NUMBERS; k++) each[k] = igvm_verdict(sheet, n, k);
-    hold_numbers(file, numbers, IGVM_VERDICT_NUMBERS, igvm_verdict_numbers(sheet, n, numbers, sizeof numbers), each);
+    for (uint32_t k = 0; k < IGVM_VERDICT_NUMBERS; k++) each[k] = call(sheet, n, k);
+    hold(sibling(sheet, n, numbers, 8 * IGVM_VERDICT_NUMBERS - 1) == each[IGVM_NUMBER], file, "the sibling returns another number where too few words are lent");
+    for (size_t i = 0; i < sizeof numbers; i++) hold(numbers[i] == PAINT, file, "the sibling puts numbers where too few words are lent");
+    hold_numbers(file, numbers, IGVM_VERDICT_NUMBERS, sibling(sheet, n, numbers, sizeof numbers), each);
+    memcpy(overlapping, sheet, n);
+    hold(sibling(overlapping, n, overlapping, WORDS) == each[IGVM_NUMBER] && memcmp(overlapping, numbers, 8 * IGVM_VERDICT_NUMBERS) == 0, file,
+         "another verdict where the numbers overlap the sheet");
+}
+
+/* Row and lowest bit of the first region of an accepted sheet that has a bit without a context, a mask bit that no VBS context of its VTL has; else 0 and 0. */
+static void first_without_context(const uint8_t *sheet, uint64_t *row, uint64_t *bit) {
+    uint64_t rows = field(sheet, 8, 2) + field(sheet, 10, 2) + field(sheet, 12, 2), contexts[3] = {0};
+    size_t at = 16 + 8 * rows;
+    for (uint64_t k = 1; k <= rows; at += field(sheet, 12 + 8 * k, 4), k++) {
+        uint64_t kind = field(sheet, 8 + 8 * k, 4);
+        if (kind == 47 || kind == 48) contexts[sheet[at + 4]] |= field(sheet, at, 4);
+    }
+    at = 16 + 8 * rows;
+    *row = *bit = 0;
+    for (uint64_t k = 1; k <= rows && *row == 0; at += field(sheet, 12 + 8 * k, 4), k++) {
+        uint64_t kind = field(sheet, 8 + 8 * k, 4);
+        if (kind != 18 && kind != 19) continue;
+        uint64_t without = field(sheet, at, 4) & ~contexts[sheet[at + (kind == 18 ? 47 : 30)]];
+        if (without != 0) *row = k, *bit = without & (~without + 1);
+    }
+}
+
+/* The strict verdict is the verdict, and then 38. */
+static void verdicts(const char *file, const uint8_t *sheet, size_t n, uint8_t *overlapping) {
+    uint64_t each[IGVM_VERDICT_NUMBERS], strict[IGVM_VERDICT_NUMBERS], row, bit;
+    verdict(file, sheet, n, overlapping, igvm_verdict, igvm_verdict_numbers, each);
+    verdict(file, sheet, n, overlapping, igvm_strict_verdict, igvm_strict_verdict_numbers, strict);
+    if (each[IGVM_NUMBER] == IGVM_ACCEPTED) {
+        first_without_context(sheet, &row, &bit);
+        uint64_t refusal[IGVM_VERDICT_NUMBERS] = {IGVM_ERROR_BIT_WITHOUT_VP_CONTEXT, row, bit};
+        if (row != 0) memcpy(each, refusal, sizeof each);
+    }
+    hold(memcmp(strict, each, sizeof each) == 0, file, "the strict verdict is neither the verdict nor 38 of the first bit without a context");
 }
 
 /* The bases from lowest to highest, for a region that the mask has. Returns the answer, 0 where the lowest is above the highest. */
@@ -144,7 +184,7 @@ static void *all_sheets(void *nothing) {
         size_t n;
         uint8_t *sheet = read_sheet(files[i], &n), *overlapping = malloc(IGVM_MAX_SHEET_BYTES + 1 + WORDS);
         hold(overlapping != NULL, files[i], "no memory");
-        verdict(files[i], sheet, n);
+        verdicts(files[i], sheet, n, overlapping);
         for (uint32_t mask = 0; mask < 4; mask++) relocations(files[i], sheet, n, mask, overlapping);
         free(sheet);
         free(overlapping);
@@ -157,16 +197,18 @@ static uint8_t numbers_lent[8 * IGVM_RELOCATIONS_NUMBERS], words_lent[WORDS];
 
 static void call_0(const uint8_t *s, size_t n) { igvm_verdict(s, n, 0); }
 static void call_1(const uint8_t *s, size_t n) { igvm_verdict_numbers(s, n, numbers_lent, sizeof numbers_lent); }
-static void call_2(const uint8_t *s, size_t n) { igvm_relocations(s, n, 1, words_lent, sizeof words_lent, 0); }
-static void call_3(const uint8_t *s, size_t n) { igvm_relocations_numbers(s, n, 1, words_lent, sizeof words_lent, numbers_lent, sizeof numbers_lent); }
-static void call_4(const uint8_t *s, size_t n) { igvm_relocation_base_valid(s, n, 1, 0, 0, 0); }
-static void call_5(const uint8_t *s, size_t n) { igvm_relocation_base_valid_numbers(s, n, 1, 0, 0, numbers_lent, sizeof numbers_lent); }
-static void call_6(const uint8_t *s, size_t n) { igvm_relocation_base_range(s, n, 1, 0, 0, UINT64_MAX, 0); }
-static void call_7(const uint8_t *s, size_t n) { igvm_relocation_base_range_numbers(s, n, 1, 0, 0, UINT64_MAX, numbers_lent, sizeof numbers_lent); }
-static void call_8(const uint8_t *s, size_t n) { igvm_contains(s, n, 1, 0, 0, 0); }
-static void call_9(const uint8_t *s, size_t n) { igvm_contains_numbers(s, n, 1, 0, 0, numbers_lent, sizeof numbers_lent); }
-static void call_10(const uint8_t *s, size_t n) { igvm_region_base_valid(s, n, 0); }
-static void call_11(const uint8_t *s, size_t n) { igvm_region_contains(s, n, 0); }
+static void call_2(const uint8_t *s, size_t n) { igvm_strict_verdict(s, n, 0); }
+static void call_3(const uint8_t *s, size_t n) { igvm_strict_verdict_numbers(s, n, numbers_lent, sizeof numbers_lent); }
+static void call_4(const uint8_t *s, size_t n) { igvm_relocations(s, n, 1, words_lent, sizeof words_lent, 0); }
+static void call_5(const uint8_t *s, size_t n) { igvm_relocations_numbers(s, n, 1, words_lent, sizeof words_lent, numbers_lent, sizeof numbers_lent); }
+static void call_6(const uint8_t *s, size_t n) { igvm_relocation_base_valid(s, n, 1, 0, 0, 0); }
+static void call_7(const uint8_t *s, size_t n) { igvm_relocation_base_valid_numbers(s, n, 1, 0, 0, numbers_lent, sizeof numbers_lent); }
+static void call_8(const uint8_t *s, size_t n) { igvm_relocation_base_range(s, n, 1, 0, 0, UINT64_MAX, 0); }
+static void call_9(const uint8_t *s, size_t n) { igvm_relocation_base_range_numbers(s, n, 1, 0, 0, UINT64_MAX, numbers_lent, sizeof numbers_lent); }
+static void call_10(const uint8_t *s, size_t n) { igvm_contains(s, n, 1, 0, 0, 0); }
+static void call_11(const uint8_t *s, size_t n) { igvm_contains_numbers(s, n, 1, 0, 0, numbers_lent, sizeof numbers_lent); }
+static void call_12(const uint8_t *s, size_t n) { igvm_region_base_valid(s, n, 0); }
+static void call_13(const uint8_t *s, size_t n) { igvm_region_contains(s, n, 0); }
 
 static const struct {
     const char *name;
@@ -174,16 +216,18 @@ static const struct {
 } calls[] = {
     {"igvm_verdict", call_0},
     {"igvm_verdict_numbers", call_1},
-    {"igvm_relocations", call_2},
-    {"igvm_relocations_numbers", call_3},
-    {"igvm_relocation_base_valid", call_4},
-    {"igvm_relocation_base_valid_numbers", call_5},
-    {"igvm_relocation_base_range", call_6},
-    {"igvm_relocation_base_range_numbers", call_7},
-    {"igvm_contains", call_8},
-    {"igvm_contains_numbers", call_9},
-    {"igvm_region_base_valid", call_10},
-    {"igvm_region_contains", call_11},
+    {"igvm_strict_verdict", call_2},
+    {"igvm_strict_verdict_numbers", call_3},
+    {"igvm_relocations", call_4},
+    {"igvm_relocations_numbers", call_5},
+    {"igvm_relocation_base_valid", call_6},
+    {"igvm_relocation_base_valid_numbers", call_7},
+    {"igvm_relocation_base_range", call_8},
+    {"igvm_relocation_base_range_numbers", call_9},
+    {"igvm_contains", call_10},
+    {"igvm_contains_numbers", call_11},
+    {"igvm_region_base_valid", call_12},
+    {"igvm_region_contains", call_13},
 };
 #define CALLS (sizeof calls / sizeof *calls)
 
