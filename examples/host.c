@@ -1,8 +1,9 @@
-/* A host that reads a sheet from standard input, asks for the verdict, and for a mask (the argument, in hexadecimal digits; 1 without it) its regions,
- * whether each may stay where it is, or why not, and its page-table region. One call for each answer. Status 0: accepted; 1: refused; 2: no input. */
+/* A host that reads a sheet from standard input, asks for the verdict, with `--strict` the strict one, and for a mask (the argument, in hexadecimal digits; 1 without
+ * it) its regions, whether each may stay where it is, or why not, and its page-table region. One call for each answer. Status 0: accepted; 1: refused; 2: no input. */
 #include <inttypes.h>
 #include <stdio.h>
 #include <stdlib.h>
+#include <string.h>
 
 #include "igvm.h"
 
@@ -46,8 +47,9 @@ static void print_region(uint64_t k) {
            stays(igvm_region_base_valid(region, IGVM_REGION_BYTES, base)), igvm_region_contains(region, IGVM_REGION_BYTES, base));
 }
 
-static int answer(size_t n, uint32_t mask) {
-    if (igvm_verdict_numbers(sheet, n, numbers, sizeof numbers) != IGVM_ACCEPTED) return refused();
+static int answer(size_t n, int strict, uint32_t mask) {
+    uint64_t refusal = (strict ? igvm_strict_verdict_numbers : igvm_verdict_numbers)(sheet, n, numbers, sizeof numbers);
+    if (refusal != IGVM_ACCEPTED) return refused();
     printf("accepted %" PRIu64 " %" PRIu64 " %" PRIu64 "\n", number(IGVM_PLATFORM_ROWS), number(IGVM_INITIALIZATION_ROWS), number(IGVM_DIRECTIVE_ROWS));
     if (igvm_relocations_numbers(sheet, n, mask, words, sizeof words, numbers, sizeof numbers) != IGVM_ACCEPTED) return refused();
     for (uint64_t k = 0; k < number(IGVM_COUNT); k++) print_region(k);
@@ -57,10 +59,12 @@ static int answer(size_t n, uint32_t mask) {
 }
 
 int main(int argc, char **argv) {
-    char *end = NULL;
-    unsigned long mask = argc > 1 ? strtoul(argv[1], &end, 16) : 1;
-    if (argc > 2 || (end && (end == argv[1] || *end != 0)) || mask > UINT32_MAX) {
-        fprintf(stderr, "usage: host [MASK] < SHEET\n");
+    int strict = argc > 1 && strcmp(argv[1], "--strict") == 0;
+    const char *word = argc > 1 + strict ? argv[1 + strict] : "1";
+    char *end;
+    unsigned long mask = strtoul(word, &end, 16);
+    if (argc > 2 + strict || end == word || *end != 0 || mask > UINT32_MAX) {
+        fprintf(stderr, "usage: host [--strict] [MASK] < SHEET\n");
         return 2;
     }
     size_t n = fread(sheet, 1, sizeof sheet, stdin);
@@ -68,5 +72,5 @@ int main(int argc, char **argv) {
         fprintf(stderr, "the input can't be read\n");
         return 2;
     }
-    return answer(n, (uint32_t)mask);
+    return answer(n, strict, (uint32_t)mask);
 }

@@ -3,11 +3,13 @@
 //! ```sh
 //! cargo run --example explain -- FILE
 //! cargo run --example explain < FILE
+//! cargo run --example explain -- --strict FILE
 //! ```
 //!
-//! The rows are shown as far as they can be read; it is the library that judges. Exit status: 0 accepted, 1 refused, 2 no sheet could be read.
+//! The rows are shown as far as they can be read; it is the library that judges, with `--strict` by the strict verdict. Exit status: 0 accepted, 1 refused, 2 no
+//! sheet could be read.
 
-use sapyullu::{verdict, Place};
+use sapyullu::{strict_verdict, verdict, Place};
 use std::ffi::OsString;
 use std::fs;
 use std::io::{self, Read, Write};
@@ -196,9 +198,9 @@ fn rows(sheet: &[u8], out: &mut impl Write) -> io::Result<()> {
 }
 
 /// All that is to be said of a sheet, and whether it is accepted.
-fn explain(sheet: &[u8], out: &mut impl Write) -> io::Result<bool> {
+fn explain(sheet: &[u8], strict: bool, out: &mut impl Write) -> io::Result<bool> {
     rows(sheet, out)?;
-    let answer = verdict(sheet);
+    let answer = if strict { strict_verdict(sheet) } else { verdict(sheet) };
     match &answer {
         Ok(counts) => writeln!(out, "{}", counts.line())?,
         Err(refusal) => writeln!(out, "{}\n{refusal}\ncure: {}", refusal.line(), refusal.error.cure())?,
@@ -216,13 +218,17 @@ fn sheet(arguments: &[OsString], input: &mut impl Read) -> io::Result<Vec<u8>> {
             Ok(bytes)
         }
         [file] => fs::read(file).map_err(|error| io::Error::new(error.kind(), format!("{}: {error}", Path::new(file).display()))),
-        _ => Err(io::Error::new(io::ErrorKind::InvalidInput, "usage: explain [FILE], or explain < FILE")),
+        _ => Err(io::Error::new(io::ErrorKind::InvalidInput, "usage: explain [--strict] [FILE], or explain [--strict] < FILE")),
     }
 }
 
 /// The exit status.
 pub fn run(arguments: &[OsString], input: &mut impl Read, out: &mut impl Write) -> u8 {
-    match sheet(arguments, input).and_then(|sheet| explain(&sheet, out)) {
+    let (strict, file) = match arguments {
+        [first, rest @ ..] if first == "--strict" => (true, rest),
+        all => (false, all),
+    };
+    match sheet(file, input).and_then(|sheet| explain(&sheet, strict, out)) {
         Ok(accepted) => u8::from(!accepted),
         Err(error) => {
             eprintln!("{error}");

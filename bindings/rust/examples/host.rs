@@ -1,15 +1,17 @@
-//! A host that reads a sheet from standard input, asks for the verdict, and for a mask (the argument, in hexadecimal digits; 1 without it) its regions, whether
-//! each may stay where it is, or why not, and its page-table region. It writes what examples/host.c of the repository does, and a refusal's reason to standard error.
+//! A host that reads a sheet from standard input, asks for the verdict, with `--strict` the strict one, and for a mask (the argument, in hexadecimal digits; 1
+//! without it) its regions, whether each may stay where it is, or why not, and its page-table region. It writes what examples/host.c of the repository does, and a
+//! refusal's reason to standard error.
 
-use sapyullu::{relocations, verdict, BaseCheck, Refusal};
+use sapyullu::{relocations, strict_verdict, verdict, BaseCheck, Refusal};
 use std::io::Read;
 use std::process::ExitCode;
 
 /// One byte more than the longest sheet, so that a longer input is refused, not cut.
 const MOST_BYTES: u64 = 67_108_865;
 
-fn answer(sheet: &[u8], mask: u32) -> Result<(), Refusal> {
-    println!("{}", verdict(sheet)?.line());
+fn answer(sheet: &[u8], strict: bool, mask: u32) -> Result<(), Refusal> {
+    let counts = if strict { strict_verdict(sheet)? } else { verdict(sheet)? };
+    println!("{}", counts.line());
     let found = relocations(sheet, mask)?;
     for (number, region) in found.regions.iter().enumerate() {
         let (base, size) = (region.base_gpa, region.size);
@@ -27,14 +29,16 @@ fn answer(sheet: &[u8], mask: u32) -> Result<(), Refusal> {
 }
 
 fn main() -> ExitCode {
-    let word = std::env::args().nth(1).unwrap_or("1".to_string());
+    let mut arguments = std::env::args().skip(1).peekable();
+    let strict = arguments.next_if_eq("--strict").is_some();
+    let word = arguments.next().unwrap_or("1".to_string());
     let mut sheet = Vec::new();
     let read = std::io::stdin().take(MOST_BYTES).read_to_end(&mut sheet);
-    let (Ok(mask), Ok(_)) = (u32::from_str_radix(&word, 16), read) else {
-        eprintln!("usage: host [MASK] < SHEET");
+    let (Ok(mask), Ok(_), None) = (u32::from_str_radix(&word, 16), read, arguments.next()) else {
+        eprintln!("usage: host [--strict] [MASK] < SHEET");
         return ExitCode::from(2);
     };
-    match answer(&sheet, mask) {
+    match answer(&sheet, strict, mask) {
         Ok(()) => ExitCode::SUCCESS,
         Err(refusal) => {
             println!("{}", refusal.line());

@@ -11,11 +11,16 @@ use std::ffi::OsString;
 use std::fs;
 use std::path::PathBuf;
 
-/// What is written, and the exit status.
-fn explained(sheet: &[u8]) -> (String, u8) {
+/// What is written with these arguments, and the exit status.
+fn explained_with(arguments: &[&str], mut sheet: &[u8]) -> (String, u8) {
+    let arguments: Vec<OsString> = arguments.iter().map(OsString::from).collect();
     let mut text = Vec::new();
-    let status = explain::run(&[], &mut &sheet[..], &mut text);
+    let status = explain::run(&arguments, &mut sheet, &mut text);
     (String::from_utf8(text).unwrap(), status)
+}
+
+fn explained(sheet: &[u8]) -> (String, u8) {
+    explained_with(&[], sheet)
 }
 
 fn samples() -> Vec<(PathBuf, Vec<u8>)> {
@@ -48,6 +53,25 @@ cure: move the address to a multiple of the region's alignment, or give the regi
 ";
     assert!(text.ends_with(end), "{text}");
     assert_eq!(status, 1);
+}
+
+#[test]
+fn the_strict_verdict_is_given_where_it_is_asked_for() {
+    let mut sheet = image_b();
+    if let IgvmInitializationHeader::RelocatableRegion { compatibility_mask, .. } = &mut sheet.initialization_headers[0] {
+        *compatibility_mask = 3;
+    }
+    let (text, status) = explained(&sheet.bytes().unwrap());
+    assert_eq!((text.lines().last(), status), (Some("accepted 1 1 1"), 0));
+    let (text, status) = explained_with(&["--strict"], &sheet.bytes().unwrap());
+    let end = "\
+refused 38 row 2 detail 2
+refusal 38 (BitWithoutVpContext) in row 2 (initialization header 0): the region's mask has a bit that no VBS context of its VTL has (mask 0x2)
+cure: list for each bit of the region's mask a VBS context of its VTL with that bit, or take the bit out of the region's mask
+";
+    assert!(text.ends_with(end), "{text}");
+    assert_eq!(status, 1);
+    assert_eq!(explained_with(&["--strict"], &image_b().bytes().unwrap()), explained(&image_b().bytes().unwrap()));
 }
 
 /// The line of the sheet's last row, from its kind on.
@@ -200,16 +224,15 @@ fn check(sheet: &[u8]) {
 
 #[test]
 fn a_file_is_read_where_one_is_named() {
-    let status = |arguments: &[&str]| {
-        let arguments: Vec<OsString> = arguments.iter().map(OsString::from).collect();
-        let mut text = Vec::new();
-        (explain::run(&arguments, &mut std::io::empty(), &mut text), String::from_utf8(text).unwrap())
-    };
+    let told = |arguments: &[&str]| explained_with(arguments, &[]);
     let sample = concat!(env!("CARGO_MANIFEST_DIR"), "/../../samples/accepted-image-b.sheet");
-    let (accepted, text) = status(&[sample]);
-    assert_eq!((accepted, text.lines().last()), (0, Some("accepted 1 1 1")));
-    assert_eq!(status(&[concat!(env!("CARGO_MANIFEST_DIR"), "/../../samples/19-alignment-zero.sheet")]).0, 1);
-    assert_eq!(status(&[concat!(env!("CARGO_MANIFEST_DIR"), "/no-such-file")]), (2, String::new()));
-    assert_eq!(status(&[sample, sample]), (2, String::new()));
-    assert_eq!(status(&[]).0, 1, "no bytes are a sheet that is refused");
+    for arguments in [&[sample][..], &["--strict", sample]] {
+        let (text, status) = told(arguments);
+        assert_eq!((text.lines().last(), status), (Some("accepted 1 1 1"), 0));
+    }
+    assert_eq!(told(&[concat!(env!("CARGO_MANIFEST_DIR"), "/../../samples/19-alignment-zero.sheet")]).1, 1);
+    assert_eq!(told(&[concat!(env!("CARGO_MANIFEST_DIR"), "/no-such-file")]), (String::new(), 2));
+    assert_eq!(told(&[sample, sample]), (String::new(), 2));
+    assert_eq!(told(&[sample, "--strict"]), (String::new(), 2));
+    assert_eq!(told(&[]).1, 1, "no bytes are a sheet that is refused");
 }
