@@ -1,5 +1,7 @@
 //! Bases that were checked: which answers, and which combinations of what is wrong with a base, a run must have met.
 
+use crate::columns::Columns;
+
 /// The answers from 1 on; then bases of which more than one thing is wrong; then such as are too high alone, and whose sum with the size is 2^64 or above it.
 const COLUMNS: [&str; 10] = [
     "valid",
@@ -61,18 +63,16 @@ impl Bases {
             self.0[column] += 1;
         }
     }
+}
 
-    pub fn add(&mut self, other: &Bases) {
-        self.0.iter_mut().zip(other.0).for_each(|(sum, count)| *sum += count);
+impl Columns for Bases {
+    const NAMES: &'static [&'static str] = &COLUMNS;
+
+    fn counts(&self) -> &[u64] {
+        &self.0
     }
 
-    /// What was not met, if all of it must be.
-    pub fn missing(&self) -> Vec<&'static str> {
-        COLUMNS.into_iter().zip(self.0).filter(|(_, count)| *count == 0).map(|(column, _)| column).collect()
-    }
-
-    /// What was met, and how often.
-    pub fn text(&self) -> String {
-        COLUMNS.iter().zip(self.0).map(|(column, count)| format!("{column} {count}")).collect::<Vec<_>>().join(", ")
+    fn counts_mut(&mut self) -> &mut [u64] {
+        &mut self.0
     }
 }

@@ -4,6 +4,7 @@ mod adapter;
 mod alignments;
 mod bases;
 mod caught;
+mod columns;
 mod compare;
 mod generate;
 mod large;
@@ -28,6 +29,7 @@ mod speed;
 mod tally;
 
 use calls::Calls;
+use columns::Columns;
 use compare::{Between, Call, Difference};
 use std::time::Instant;
 use tally::Tally;

@@ -1,6 +1,7 @@
 //! Ranges of bases: which ranges and which answers a run must have met, and the answer by the Rust's check of each multiple, by the check by words of
 //! each, and by plain Rust.
 
+use crate::columns::Columns;
 use crate::paper::Refusal;
 use crate::plain;
 use oracle::IgvmRelocatableRegion;
@@ -124,7 +125,7 @@ impl Ranges {
     pub fn met(&mut self, words: &[u64; 8], (lowest, highest): (u64, u64), answer: u64, has_rust: bool) {
         let mut columns = columns(words, lowest, highest, answer);
         columns[BY_RUST] = has_rust;
-        self.0.iter_mut().zip(columns).for_each(|(count, holds)| *count += u64::from(holds));
+        self.count(&columns);
     }
 
     /// The refusal of a range whose lowest base is above the highest: 50, or one that comes before it.
@@ -137,19 +138,17 @@ impl Ranges {
         };
         self.0[column] += 1;
     }
+}
 
-    pub fn add(&mut self, other: &Ranges) {
-        self.0.iter_mut().zip(other.0).for_each(|(sum, count)| *sum += count);
+impl Columns for Ranges {
+    const NAMES: &'static [&'static str] = &COLUMNS;
+
+    fn counts(&self) -> &[u64] {
+        &self.0
     }
 
-    /// What was not met, if all of it must be.
-    pub fn missing(&self) -> Vec<&'static str> {
-        COLUMNS.into_iter().zip(self.0).filter(|(_, count)| *count == 0).map(|(column, _)| column).collect()
-    }
-
-    /// What was met, and how often.
-    pub fn text(&self) -> String {
-        COLUMNS.iter().zip(self.0).map(|(column, count)| format!("{column} {count}")).collect::<Vec<_>>().join("; ")
+    fn counts_mut(&mut self) -> &mut [u64] {
+        &mut self.0
     }
 }
 

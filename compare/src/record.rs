@@ -3,6 +3,7 @@
 //! library is not asked. Among them are few sheets of more than 1,024 directive rows, made for what they show.
 
 use crate::bases::{Bases, Faults};
+use crate::columns::Columns;
 use crate::compare::{answer, to_lend, Answer, By, Call, Rust};
 use crate::generate::TOP;
 use crate::random::Random;

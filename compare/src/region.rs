@@ -3,6 +3,7 @@
 
 use crate::alignments::{self, Alignments};
 use crate::bases::Bases;
+use crate::columns::Columns;
 use crate::compare::{Agreed, Between, Call, Difference, Extent, Rust, Said};
 use crate::random::Random;
 use crate::{generate, paper, plan, ranges, short};

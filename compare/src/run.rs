@@ -1,5 +1,6 @@
 //! Runs over many sheets: the stored samples, the short ones, and random ones.
 
+use crate::columns::Columns;
 use crate::compare::{check, Call, Difference, Extent, Rust};
 use crate::random::Random;
 use crate::tally::Tally;

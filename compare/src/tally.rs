@@ -2,6 +2,7 @@
 
 use crate::alignments::Alignments;
 use crate::bases::Bases;
+use crate::columns::Columns;
 use crate::ranges::Ranges;
 
 /// Counts by refusal: 0 for accepted or answered, then the refusals. There is none from 38 to 49.
