@@ -148,8 +148,10 @@ fn same_range(
     region: &[u8],
     agreed: &mut Agreed,
 ) -> Result<(), Difference> {
-    let Some(words) = words(region) else { return Ok(()) };
     let differ = |between: Between, what: String| Difference { sheet: sheet.to_vec(), call, what, between };
+    let Some(words) = words(region).filter(|words| words[2] != 0) else {
+        return Err(differ(Between::Paper, "the words of the region have alignment 0, which document 01 does not accept".into()));
+    };
     let (by_each, by_places) = (paper::by_each(&words, lowest, highest), paper::by_places(&words, lowest, highest));
     if by_each.is_some_and(|answer| answer != by_places) {
         return Err(differ(
