@@ -16,6 +16,7 @@ mod linked {
 
     extern "C" {
         fn igvm_verdict(sheet: *const u8, sheet_len: usize, which: u32) -> u64;
+        fn igvm_strict_verdict(sheet: *const u8, sheet_len: usize, which: u32) -> u64;
         fn igvm_relocations(sheet: *const u8, sheet_len: usize, mask: u32, words: *mut u8, words_len: usize, which: u32) -> u64;
         fn igvm_relocation_base_valid(sheet: *const u8, sheet_len: usize, mask: u32, region: u64, base: u64, which: u32) -> u64;
         fn igvm_contains(sheet: *const u8, sheet_len: usize, mask: u32, region: u64, gpa: u64, which: u32) -> u64;
@@ -29,6 +30,7 @@ mod linked {
             which: u32,
         ) -> u64;
         fn igvm_verdict_numbers(sheet: *const u8, sheet_len: usize, numbers: *mut u8, numbers_len: usize) -> u64;
+        fn igvm_strict_verdict_numbers(sheet: *const u8, sheet_len: usize, numbers: *mut u8, numbers_len: usize) -> u64;
         fn igvm_relocations_numbers(
             sheet: *const u8,
             sheet_len: usize,
@@ -93,6 +95,10 @@ mod linked {
         unsafe { igvm_verdict(pointer(sheet, which as usize), sheet.len(), which) }
     }
 
+    fn strict_verdict(sheet: &[u8], which: u32) -> u64 {
+        unsafe { igvm_strict_verdict(pointer(sheet, which as usize), sheet.len(), which) }
+    }
+
     fn relocations(sheet: &[u8], mask: u32, words: &mut [u8], which: u32) -> u64 {
         let beside = which as usize;
         unsafe { igvm_relocations(pointer(sheet, beside), sheet.len(), mask, lent(words, beside), words.len(), which) }
@@ -113,6 +119,11 @@ mod linked {
     fn verdict_numbers(sheet: &[u8], numbers: &mut [u8]) -> u64 {
         let sheet_start = pointer(sheet, numbers.len());
         unsafe { igvm_verdict_numbers(sheet_start, sheet.len(), lent(numbers, sheet.len()), numbers.len()) }
+    }
+
+    fn strict_verdict_numbers(sheet: &[u8], numbers: &mut [u8]) -> u64 {
+        let sheet_start = pointer(sheet, numbers.len());
+        unsafe { igvm_strict_verdict_numbers(sheet_start, sheet.len(), lent(numbers, sheet.len()), numbers.len()) }
     }
 
     fn relocations_numbers(sheet: &[u8], mask: u32, words: &mut [u8], numbers: &mut [u8]) -> u64 {
@@ -146,11 +157,13 @@ mod linked {
 
     pub const CALLS: Calls = Calls {
         verdict,
+        strict_verdict,
         relocations,
         relocation_base_valid,
         contains,
         relocation_base_range,
         verdict_numbers,
+        strict_verdict_numbers,
         relocations_numbers,
         relocation_base_valid_numbers,
         contains_numbers,

@@ -1,6 +1,6 @@
-// Document 01 in plain Rust, in its order, with the refusal's number beside each test; and of document 02 why a base is not valid, and the answer
-// over a range of bases. It is written for reading, not for speed. It is what the calls are compared with where the Rust has no answer: 1 to 6, 19,
-// 27, 28, 35 to 37, 50, regions' words that it can't hold, why a base is not valid, and ranges of more multiples than are tried.
+// Document 01 in plain Rust, in its order, with the refusal's number beside each test; and of document 02 the strict verdict, why a base is not
+// valid, and the answer over a range of bases. It is written for reading, not for speed. It is what the calls are compared with where the Rust has no
+// answer: 1 to 6, 19, 27, 28, 35 to 38, 50, regions' words that it can't hold, why a base is not valid, and ranges of more multiples than are tried.
 // mutations.txt edits this text: each wrong copy must be caught.
 
 use calls::Calls;
@@ -54,6 +54,11 @@ fn kind_rule(kind: u64) -> Option<(usize, usize, bool)> {
 /// The little-endian number of `width` bytes at `at`.
 fn le(bytes: &[u8], at: usize, width: usize) -> u64 {
     bytes[at..at + width].iter().rev().fold(0, |number, &byte| number * 256 + u64::from(byte))
+}
+
+/// The bits of a mask, each as a mask, the lowest first.
+fn bits(mask: u64) -> impl DoubleEndedIterator<Item = u64> {
+    (0..32).map(|place| 1 << place).filter(move |bit| mask & bit != 0)
 }
 
 /// A row: its number, from 1 across the lists, its kind and its body.
@@ -223,7 +228,7 @@ fn cca_policy(sheet: &Sheet, row: &Row) -> Checked {
     let (mask, zeroes, ones) = (row.field(0, 4), row.field(4, 8), row.field(12, 8));
     refuse(zeroes & ones != 0, 16, row.number, 0)?;
     refuse(sheet.arch != AARCH64, 24, row.number, 17)?;
-    for bit in (0..32).map(|place| 1 << place).filter(|bit| mask & bit != 0) {
+    for bit in bits(mask) {
         refuse(type_of(sheet, bit) != Some(CCA), 25, row.number, bit)?;
     }
     Ok(())
@@ -363,14 +368,45 @@ fn accepted(s: &[u8]) -> Result<Sheet<'_>, Refusal> {
 }
 
 /// Number, row, detail, and the rows of each list.
-pub fn verdict(s: &[u8]) -> [u64; 6] {
-    match accepted(s) {
+fn verdict_numbers(judged: Result<Sheet, Refusal>) -> [u64; 6] {
+    match judged {
         Ok(sheet) => {
             let (p, i, d) = (sheet.platforms.len(), sheet.initializations.len(), sheet.directives.len());
             [0, 0, 0, p as u64, i as u64, d as u64]
         }
         Err(Refusal(number, row, detail)) => [number, row, detail, 0, 0, 0],
     }
+}
+
+pub fn verdict(s: &[u8]) -> [u64; 6] {
+    verdict_numbers(accepted(s))
+}
+
+// ---- the strict verdict (document 02, request 3): the verdict, then 38
+
+/// 38: for each bit of the mask of a region of either kind there must be a VBS context of the region's VTL with that bit. The first such region by its
+/// row is named, and its lowest such bit.
+fn bits_have_contexts(sheet: &Sheet) -> Checked {
+    let regions = sheet.initializations.iter().filter_map(|row| Some((row.number, region_of(row)?)));
+    for (number, region) in regions {
+        for bit in bits(region.mask) {
+            let has_bit = |context: &Row| context.field(4, 1) == region.vtl && context.field(0, 4) & bit != 0;
+            let found = sheet.directives.iter().any(|row| matches!(row.kind, 47 | 48) && has_bit(row));
+            refuse(!found, 38, number, bit)?;
+        }
+    }
+    Ok(())
+}
+
+fn strictly_accepted(s: &[u8]) -> Result<Sheet<'_>, Refusal> {
+    let judged = accepted(s)?;
+    bits_have_contexts(&judged)?;
+    Ok(judged)
+}
+
+/// The numbers of the verdict, or 38 with its row and bit.
+pub fn strict_verdict(s: &[u8]) -> [u64; 6] {
+    verdict_numbers(strictly_accepted(s))
 }
 
 // ---- the queries: the verdict, 35, then 36 or 37; of a range 50 behind 36
@@ -560,6 +596,7 @@ pub fn put(numbers: &[u64], lent: &mut [u8]) -> u64 {
 
 pub const CALLS: Calls = Calls {
     verdict: |s, which| number(which, &verdict(s)),
+    strict_verdict: |s, which| number(which, &strict_verdict(s)),
     relocations: |s, mask, lent, which| number(which, &relocations(s, mask, lent)),
     relocation_base_valid: |s, mask, region, base, which| number(which, &relocation_base_valid(s, mask, region, base)),
     contains: |s, mask, region, gpa, which| number(which, &contains(s, mask, region, gpa)),
@@ -567,6 +604,7 @@ pub const CALLS: Calls = Calls {
         number(which, &relocation_base_range(s, mask, region, lowest, highest))
     },
     verdict_numbers: |s, numbers| put(&verdict(s), numbers),
+    strict_verdict_numbers: |s, numbers| put(&strict_verdict(s), numbers),
     relocations_numbers: |s, mask, lent, numbers| put(&relocations(s, mask, lent), numbers),
     relocation_base_valid_numbers: |s, mask, region, base, numbers| put(&relocation_base_valid(s, mask, region, base), numbers),
     contains_numbers: |s, mask, region, gpa, numbers| put(&contains(s, mask, region, gpa), numbers),

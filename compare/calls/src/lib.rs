@@ -7,11 +7,13 @@
 #[derive(Clone, Copy)]
 pub struct Calls {
     pub verdict: fn(sheet: &[u8], which: u32) -> u64,
+    pub strict_verdict: fn(sheet: &[u8], which: u32) -> u64,
     pub relocations: fn(sheet: &[u8], mask: u32, words: &mut [u8], which: u32) -> u64,
     pub relocation_base_valid: fn(sheet: &[u8], mask: u32, region: u64, base: u64, which: u32) -> u64,
     pub contains: fn(sheet: &[u8], mask: u32, region: u64, gpa: u64, which: u32) -> u64,
     pub relocation_base_range: fn(sheet: &[u8], mask: u32, region: u64, lowest: u64, highest: u64, which: u32) -> u64,
     pub verdict_numbers: fn(sheet: &[u8], numbers: &mut [u8]) -> u64,
+    pub strict_verdict_numbers: fn(sheet: &[u8], numbers: &mut [u8]) -> u64,
     pub relocations_numbers: fn(sheet: &[u8], mask: u32, words: &mut [u8], numbers: &mut [u8]) -> u64,
     pub relocation_base_valid_numbers: fn(sheet: &[u8], mask: u32, region: u64, base: u64, numbers: &mut [u8]) -> u64,
     pub contains_numbers: fn(sheet: &[u8], mask: u32, region: u64, gpa: u64, numbers: &mut [u8]) -> u64,
