@@ -221,16 +221,20 @@ pub fn interleave(random: &mut Random, sequences: Vec<Vec<Row>>) -> Vec<Row> {
     turns.into_iter().map(|n| rests[n].next().unwrap()).collect()
 }
 
-/// VBS contexts for the regions: for each, one of its VTL that shares a bit.
+/// VBS contexts for the regions: for each, one of its VTL that shares a bit; in half of the images also for each bit one that has it.
 pub fn contexts(random: &mut Random, arch: u8, bits: &[u64], initializations: &[Row]) -> Vec<Vec<Row>> {
+    let for_each_bit = random.one_in(2);
     let mut made: Vec<(u64, u64)> = Vec::new();
     for row in initializations {
         let (Some(mask), Some(vtl)) = (row.get("mask"), row.get("vtl")) else { continue };
-        if mask == 0 || made.iter().any(|&(m, v)| m & mask != 0 && v == vtl) {
-            continue;
+        loop {
+            let had = made.iter().filter(|context| context.1 == vtl).fold(0, |had, context| had | context.0);
+            let lacking: Vec<u64> = bits.iter().copied().filter(|bit| mask & !had & bit != 0).collect();
+            if lacking.is_empty() || mask & had != 0 && !for_each_bit {
+                break;
+            }
+            made.push((some_bits(random, &lacking), vtl));
         }
-        let held: Vec<u64> = bits.iter().copied().filter(|bit| mask & bit != 0).collect();
-        made.push((some_bits(random, &held), vtl));
     }
     if made.is_empty() || random.one_in(4) {
         made.push((some_bits(random, bits), random.below(3) as u64));
@@ -284,6 +288,15 @@ pub fn insert_place(random: &mut Random, bits: &[u64], initializations: &[Row]) 
     (gpa, mask)
 }
 
+/// The kind of a native context of the arch.
+pub fn native_context(arch: u8) -> u32 {
+    if arch == 0 {
+        46
+    } else {
+        49
+    }
+}
+
 /// A directive that depends on no other row.
 pub fn free_directive(random: &mut Random, arch: u8, bits: &[u64]) -> Row {
     let mask = some_bits(random, bits);
@@ -291,7 +304,6 @@ pub fn free_directive(random: &mut Random, arch: u8, bits: &[u64]) -> Row {
     let gpa = random.pick(&[0, 0x100000, TOP, any]);
     let vp = random.pick(&[0, 1, 0xFFFF]);
     let tail = tail(random);
-    let native = if arch == 0 { 46 } else { 49 };
     match random.below(8) {
         0 | 1 => {
             let data = if random.one_in(40) { vec![7; 4096] } else { tail };
@@ -299,7 +311,7 @@ pub fn free_directive(random: &mut Random, arch: u8, bits: &[u64]) -> Row {
         }
         2 => Row::new(44, &[gpa, mask, random.pick(&[0, 0x1000, 0xFFFF_F000]), random.below(2) as u64]),
         3 => Row::new(45, &[gpa, mask, vp]).with_tail(&tail),
-        4 => Row::new(native, &[mask, vp]).with_tail(&tail),
+        4 => Row::new(native_context(arch), &[mask, vp]).with_tail(&tail),
         5 => Row::new(51, &[gpa, mask, random.next()]),
         6 => Row::new(52, &[mask]).with_tail(&tail),
         _ => Row::new(53, &[mask]).with_tail(&tail),
@@ -309,9 +321,10 @@ pub fn free_directive(random: &mut Random, arch: u8, bits: &[u64]) -> Row {
 // ---- changes of an image
 
 pub fn change(random: &mut Random, image: &mut Image) {
-    match random.below(21) {
+    match random.below(22) {
         0..=6 => change_field(random, image),
         20 => misalign(random, image),
+        21 => change_context(random, image),
         7 | 8 => relate_regions(random, image),
         9 => relate_insert(random, image),
         10 => swap_rows(random, image),
@@ -436,6 +449,27 @@ fn relate_insert(random: &mut Random, image: &mut Image) {
     let insert = &mut image.lists[2][random.pick(&inserts)];
     insert.set("gpa", gpa.wrapping_add(there));
     insert.set("mask", random.pick(&[mask, mask, 0xFFFF_FFFF, !mask]));
+}
+
+/// A VBS context loses some of its bits, gets another VTL, or becomes a native one of the same bits; or a region of either kind gets one bit more or
+/// another VTL.
+fn change_context(random: &mut Random, image: &mut Image) {
+    let of_kinds = |rows: &[Row], kinds: [u32; 2]| (0..rows.len()).filter(|&at| kinds.contains(&rows[at].kind)).collect::<Vec<_>>();
+    let (contexts, regions) = (of_kinds(&image.lists[2], [47, 48]), of_kinds(&image.lists[1], [18, 19]));
+    if contexts.is_empty() || regions.is_empty() {
+        return add_row(random, image);
+    }
+    let (native, place) = (native_context(image.arch), random.below(32));
+    let [_, initializations, directives] = &mut image.lists;
+    let (context, region) = (&mut directives[random.pick(&contexts)], &mut initializations[random.pick(&regions)]);
+    let [held, mask] = [&*context, &*region].map(|row| row.get("mask").unwrap_or(0));
+    match random.below(5) {
+        0 => context.set("mask", held & random.next()),
+        1 => context.set("vtl", random.below(3) as u64),
+        2 => *context = Row::new(native, &[held, random.below(3) as u64]),
+        3 => region.set("vtl", random.below(3) as u64),
+        _ => region.set("mask", mask | 1 << random.pick(&[0, 1, 2, 3, place, 31])),
+    }
 }
 
 fn swap_rows(random: &mut Random, image: &mut Image) {

@@ -2,7 +2,7 @@
 
 use crate::alignments;
 use crate::compare::Call;
-use crate::generate::TOP;
+use crate::generate::{native_context, TOP};
 use crate::sheet::{fields, fields_length, is_open, kinds, list_of, Image, Row};
 
 /// What is done with each sheet; false stops.
@@ -10,7 +10,7 @@ type Each<'a> = &'a mut dyn FnMut(&[u8]) -> bool;
 
 /// Every short sheet. False if `each` stopped.
 pub fn every(each: Each) -> bool {
-    let parts: [fn(Each) -> bool; 12] = [
+    let parts: [fn(Each) -> bool; 13] = [
         few_bytes,
         heads,
         revisions,
@@ -22,6 +22,7 @@ pub fn every(each: Each) -> bool {
         areas,
         inserts,
         region_contexts,
+        regions_and_contexts,
         lengths_and_bytes,
     ];
     limits(each) && parts.into_iter().all(|part| part(each)) && three_regions(each) && far_areas(each) && behind_a_fault(each)
@@ -46,7 +47,7 @@ pub fn native() -> Row {
 }
 
 /// A platform that both archs take.
-fn vsm(mask: u64) -> Row {
+pub fn vsm(mask: u64) -> Row {
     Row::new(1, &[mask, 0, 1, 1, 0])
 }
 
@@ -56,6 +57,19 @@ pub fn region(mask: u64, gpa: u64, size: u64) -> Row {
 
 pub fn page_table(mask: u64, gpa: u64, size: u64) -> Row {
     Row::new(19, &[mask, gpa, size, 0, 0, 0])
+}
+
+/// A region of kind 18 or 19.
+fn region_of(kind: u64, mask: u64, gpa: u64, size: u64) -> Row {
+    let make = if kind == 18 { region } else { page_table };
+    make(mask, gpa, size)
+}
+
+/// A region of kind 18 or 19 with this VTL: the page of this number.
+pub fn one_page(kind: u64, mask: u64, vtl: u64, number: u64) -> Row {
+    let mut row = region_of(kind, mask, 0x1000 * number, 0x1000);
+    row.set("vtl", vtl);
+    row
 }
 
 /// A VBS context of the arch.
@@ -183,10 +197,7 @@ fn two_regions(each: Each) -> bool {
     let sizes: &[u64] = &[1, 2, 3];
     let kinds: &[u64] = &[18, 19];
     product(&[kinds, kinds, masks, masks, pages, pages, sizes, sizes], &mut |v| {
-        let row = |n: usize| {
-            let make = if v[n] == 18 { region } else { page_table };
-            make(v[2 + n], 0x1000 * v[4 + n], 0x1000 * v[6 + n])
-        };
+        let row = |n: usize| region_of(v[n], v[2 + n], 0x1000 * v[4 + n], 0x1000 * v[6 + n]);
         each(&Image::new(0, [vec![native()], vec![row(0), row(1)], vec![vbs(0, 3, 0)]]).bytes())
     })
 }
@@ -195,10 +206,7 @@ fn two_regions(each: Each) -> bool {
 fn three_regions(each: Each) -> bool {
     let (kinds, masks, pages): (&[u64], &[u64], &[u64]) = (&[18, 19], &[1, 2, 3], &[0, 1, 2, 3]);
     product(&[kinds, kinds, kinds, masks, masks, masks, pages, pages, pages, &[1, 2]], &mut |v| {
-        let row = |n: usize| {
-            let make = if v[n] == 18 { region } else { page_table };
-            make(v[3 + n], 0x1000 * v[6 + n], if n == 2 { 0x1000 * v[9] } else { 0x1000 })
-        };
+        let row = |n: usize| region_of(v[n], v[3 + n], 0x1000 * v[6 + n], if n == 2 { 0x1000 * v[9] } else { 0x1000 });
         each(&Image::new(0, [vec![native()], vec![row(0), row(1), row(2)], vec![vbs(0, 3, 0)]]).bytes())
     })
 }
@@ -281,11 +289,24 @@ fn inserts(each: Each) -> bool {
 fn region_contexts(each: Each) -> bool {
     let (masks, vtls): (&[u64], &[u64]) = (&[0, 1, 2, 3, 6], &[0, 1, 2]);
     product(&[&[18, 19], masks, &[0, 1], vtls, masks, vtls, masks, vtls], &mut |v| {
-        let mut row = if v[0] == 18 { region(v[1], 0, 0x1000) } else { page_table(v[1], 0, 0x1000) };
+        let mut row = one_page(v[0], v[1], v[3], 0);
         row.set("vp", v[2]);
-        row.set("vtl", v[3]);
         let arch = (v[4] & 1) as u8;
         each(&Image::new(arch, [vec![vsm(1)], vec![row], vec![vbs(arch, v[4], v[5]), vbs(arch, v[6], v[7])]]).bytes())
+    })
+}
+
+/// Behind a row that is no region two regions of either kind with up to three bits, of which a platform has one; a VBS context, and another one of any
+/// VTL or a native one.
+fn regions_and_contexts(each: Each) -> bool {
+    let (archs, kinds): (&[u64], &[u64]) = (&[0, 1], &[18, 19]);
+    let (masks, held): (&[u64], &[u64]) = (&[1, 3, 0x8000_0006], &[1, 3, 6, 0x8000_0004]);
+    product(&[archs, kinds, kinds, masks, masks, &[0, 1], &[0, 2], held, held, &[0, 1, 2, 3]], &mut |v| {
+        let arch = v[0] as u8;
+        let row = |n: usize| one_page(v[1 + n], v[3 + n], v[5 + n], n as u64);
+        let second = if v[9] == 3 { Row::new(native_context(arch), &[v[8], 0]) } else { vbs(arch, v[8], v[9]) };
+        let initializations = vec![Row::new(16, &[0, 1]), row(0), row(1)];
+        each(&Image::new(arch, [vec![vsm(1)], initializations, vec![vbs(arch, v[7], 0), second]]).bytes())
     })
 }
 
@@ -299,7 +320,7 @@ fn every_kind(arch: u8) -> Image {
     directives.extend((34..44).map(|kind| Row::new(kind, &[0, 0])));
     directives.push(Row::new(44, &[0, 1, 0x1000, 0]));
     directives.push(Row::new(45, &[0, 1, 0]).with_tail(b"x"));
-    directives.push(Row::new(if arch == 0 { 46 } else { 49 }, &[1, 0]).with_tail(b"x"));
+    directives.push(Row::new(native_context(arch), &[1, 0]).with_tail(b"x"));
     directives.push(vbs(arch, 1, 0).with_tail(b"xyz"));
     directives.push(Row::new(50, &[0, 1, 0]));
     directives.push(Row::new(51, &[0, 1, 1]));
