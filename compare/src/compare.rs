@@ -1,9 +1,10 @@
 //! One sheet, one call, three answers: of the calls under test, of document 01 in Rust, and, on its domain, of the Rust itself.
-//! To the verdict there is a fourth, of plain.rs, and to a range of bases that of ranges.rs. region.rs has the checks by a region's words.
+//! To the two verdicts there is a fourth, of plain.rs, and to a range of bases that of ranges.rs. region.rs has the checks by a region's words.
 
 use crate::alignments::Alignments;
 use crate::bases::Bases;
 use crate::ranges::{self, Ranges};
+use crate::strict::{self, Strict};
 use crate::{paper, plain, region};
 use calls::Calls;
 use oracle::{Headers, Judged, Relocated};
@@ -13,6 +14,7 @@ use std::fmt::{self, Debug, Formatter};
 #[derive(Clone, Copy, Debug, PartialEq, Eq)]
 pub enum Call {
     Verdict,
+    StrictVerdict,
     Relocations { mask: u32, lent: usize },
     BaseValid { mask: u32, region: u64, base: u64 },
     Contains { mask: u32, region: u64, gpa: u64 },
@@ -148,15 +150,17 @@ impl Rust {
 
     /// The Rust's answer, where it has one: not for mask 0, a region's number too high, too few words, or a sum of 2^64 or more. Over a range of
     /// bases it is the one that follows from its check of each multiple: not where the lowest is above the highest, or there are more than are tried.
+    /// The strict verdict is its refusal, or what follows from its headers where it accepts them.
     pub fn answer(&self, call: Call, words: &mut [u8]) -> Result<Option<SaidNumbers>, String> {
-        let Some(judged) = &self.judged else {
+        let (Some(judged), Some(headers)) = (&self.judged, &self.headers) else {
             return Ok(None);
         };
-        if call == Call::Verdict {
-            return Ok(Some(said_of(&judged.numbers)));
-        }
-        if !self.queries {
-            return Ok(None);
+        match call {
+            Call::Verdict => return Ok(Some(said_of(&judged.numbers))),
+            Call::StrictVerdict if judged.file.is_some() => return Ok(Some(said_of(&strict::by_rust(headers, &judged.numbers)))),
+            Call::StrictVerdict => return Ok(Some(said_of(&judged.numbers))),
+            _ if !self.queries => return Ok(None),
+            _ => {}
         }
         if judged.file.is_none() {
             return Ok(Some(said_of(&judged.numbers[..3])));
@@ -165,7 +169,7 @@ impl Rust {
             return Ok(None);
         };
         Ok(match call {
-            Call::Verdict | Call::RegionBaseValid { .. } | Call::RegionContains { .. } => None,
+            Call::Verdict | Call::StrictVerdict | Call::RegionBaseValid { .. } | Call::RegionContains { .. } => None,
             Call::Relocations { .. } => region_list(&found, words),
             Call::BaseValid { region, base, .. } => {
                 let fits = |r: &&oracle::IgvmRelocatableRegion| base.checked_add(r.size).is_some();
@@ -197,7 +201,7 @@ fn region_list(found: &Relocated, words: &mut [u8]) -> Option<SaidNumbers> {
 impl Call {
     pub fn mask(self) -> u32 {
         match self {
-            Call::Verdict | Call::RegionBaseValid { .. } | Call::RegionContains { .. } => 0,
+            Call::Verdict | Call::StrictVerdict | Call::RegionBaseValid { .. } | Call::RegionContains { .. } => 0,
             Call::Relocations { mask, .. } | Call::BaseValid { mask, .. } | Call::Contains { mask, .. } => mask,
             Call::BaseRange { mask, .. } => mask,
         }
@@ -218,7 +222,7 @@ impl Call {
     /// How many numbers its answer has.
     pub fn numbers(self) -> usize {
         match self {
-            Call::Verdict => 6,
+            Call::Verdict | Call::StrictVerdict => 6,
             Call::Relocations { .. } => 10,
             Call::BaseValid { .. } | Call::Contains { .. } | Call::BaseRange { .. } => 4,
             Call::RegionBaseValid { .. } | Call::RegionContains { .. } => 1,
@@ -242,6 +246,7 @@ impl Call {
     fn by_paper(self, sheet: &[u8], words: &mut [u8]) -> Numbers {
         match self {
             Call::Verdict => numbers_of(&paper::verdict(sheet)),
+            Call::StrictVerdict => numbers_of(&paper::strict_verdict(sheet)),
             Call::Relocations { mask, .. } => numbers_of(&paper::relocations(sheet, mask, words)),
             Call::BaseValid { mask, region, base } => numbers_of(&paper::relocation_base_valid(sheet, mask, region, base)),
             Call::Contains { mask, region, gpa } => numbers_of(&paper::contains(sheet, mask, region, gpa)),
@@ -253,9 +258,33 @@ impl Call {
         }
     }
 
+    /// Plain Rust's numbers, where it has any: not of a region list, of the checks of a base and of an address by the sheet.
+    fn by_plain(self, sheet: &[u8]) -> Option<Numbers> {
+        match self {
+            Call::Verdict => Some(numbers_of(&plain::numbers(plain::verdict(sheet)))),
+            Call::StrictVerdict => Some(numbers_of(&plain::numbers(strict::by_plain(sheet)))),
+            Call::BaseRange { mask, region, lowest, highest } => {
+                Some(numbers_of(&ranges::by_plain(sheet, mask, region, (lowest, highest))))
+            }
+            _ => None,
+        }
+    }
+
+    /// Plain Rust gives document 01's numbers, if it has any.
+    fn plain_gives(self, sheet: &[u8], by_paper: &Numbers) -> Result<(), String> {
+        match self.by_plain(sheet) {
+            Some(by_plain) if by_plain != *by_paper => {
+                let [by_plain, by_paper] = [&by_plain, by_paper].map(|numbers| &numbers[..self.numbers()]);
+                Err(format!("plain Rust says {by_plain:?}; document 01 says {by_paper:?}"))
+            }
+            _ => Ok(()),
+        }
+    }
+
     pub fn ask(self, calls: &Calls, sheet: &[u8], words: &mut [u8], which: u32) -> u64 {
         match self {
             Call::Verdict => (calls.verdict)(sheet, which),
+            Call::StrictVerdict => (calls.strict_verdict)(sheet, which),
             Call::Relocations { mask, .. } => (calls.relocations)(sheet, mask, words, which),
             Call::BaseValid { mask, region, base } => (calls.relocation_base_valid)(sheet, mask, region, base, which),
             Call::Contains { mask, region, gpa } => (calls.contains)(sheet, mask, region, gpa, which),
@@ -269,6 +298,7 @@ impl Call {
     pub fn ask_all(self, calls: &Calls, sheet: &[u8], words: &mut [u8], numbers: &mut [u8]) -> u64 {
         match self {
             Call::Verdict => (calls.verdict_numbers)(sheet, numbers),
+            Call::StrictVerdict => (calls.strict_verdict_numbers)(sheet, numbers),
             Call::Relocations { mask, .. } => (calls.relocations_numbers)(sheet, mask, words, numbers),
             Call::BaseValid { mask, region, base } => (calls.relocation_base_valid_numbers)(sheet, mask, region, base, numbers),
             Call::Contains { mask, region, gpa } => (calls.contains_numbers)(sheet, mask, region, gpa, numbers),
@@ -277,6 +307,13 @@ impl Call {
             }
             Call::RegionBaseValid { .. } | Call::RegionContains { .. } => unreachable!("a check by a region's words has no sibling"),
         }
+    }
+
+    /// All numbers of a verdict, by the sibling.
+    fn verdict_numbers(self, calls: &Calls, sheet: &[u8]) -> strict::Numbers {
+        let mut numbers = [0; 48];
+        self.ask_all(calls, sheet, &mut [], &mut numbers);
+        std::array::from_fn(|which| u64::from_le_bytes(std::array::from_fn(|byte| numbers[8 * which + byte])))
     }
 }
 
@@ -304,6 +341,8 @@ pub enum Between {
     Paper,
     /// plain Rust and document 01, or paper.rs's two rules for a range of bases
     Plain,
+    /// the verdict and the strict verdict of the calls
+    Calls,
 }
 
 /// Two answers that differ.
@@ -317,7 +356,7 @@ pub struct Difference {
 }
 
 /// What a comparison has seen: the refusal's number, how many regions were checked by their words too, the alignments and the answers of those
-/// checked at a base, and the ranges of bases.
+/// checked at a base, the ranges of bases, and the strict verdicts.
 #[derive(Default)]
 pub struct Agreed {
     pub number: u64,
@@ -325,6 +364,7 @@ pub struct Agreed {
     pub alignments: Alignments,
     pub bases: Bases,
     pub ranges: Ranges,
+    pub strict: Strict,
 }
 
 /// The answers to one call, compared: every number, one by one and all at once, every lent byte, and the bytes on either side; and what is said of a region by its words.
@@ -337,11 +377,10 @@ pub fn check(calls: &Calls, sheet: &[u8], rust: &Rust, call: Call, extent: Exten
     let by_paper = call.by_paper(sheet, lent_part(&mut paper_bytes));
     let mut rust_bytes = fresh(call.lent());
     let by_rust = rust.answer(call, lent_part(&mut rust_bytes)).map_err(|message| differ(Between::Rust, message))?;
-    if call == Call::Verdict {
-        verdict_alike(sheet, rust, &by_paper)?;
-    }
-    if let Call::BaseRange { mask, region, lowest, highest } = call {
-        range_alike(sheet, (mask, region, lowest, highest), &by_paper).map_err(|what| differ(Between::Plain, what))?;
+    others_alike(sheet, rust, call, &by_paper)?;
+    if call == Call::StrictVerdict {
+        let [verdict, strict] = [Call::Verdict, call].map(|call| call.verdict_numbers(calls, sheet));
+        strict::goes_with(&verdict, &strict).map_err(|what| differ(Between::Calls, what))?;
     }
     for which in WHICH {
         let mut bytes = fresh(call.lent());
@@ -364,6 +403,9 @@ pub fn check(calls: &Calls, sheet: &[u8], rust: &Rust, call: Call, extent: Exten
         (0, _) => region::alike(calls, sheet, rust, call, (by_paper[3], lent_part(&mut paper_bytes)), (extent, &mut agreed))?,
         (number, Call::BaseRange { lowest, highest, .. }) if lowest > highest => agreed.ranges.refused(number),
         _ => {}
+    }
+    if let (Call::StrictVerdict, Some(headers)) = (call, &rust.headers) {
+        agreed.strict.met(headers, &by_paper);
     }
     Ok(agreed)
 }
@@ -404,7 +446,8 @@ pub enum By {
     /// document 01, since the Rust has none
     Paper,
     Rust,
-    /// the Rust says that a base is not valid, document 02 why; or the Rust says which multiples of a range are valid, document 02 what follows
+    /// the Rust says that a base is not valid, document 02 why; or the Rust says which multiples of a range are valid, or that it accepts the headers,
+    /// document 02 what follows
     RustAnd02,
     /// document 02, and the Rust has no answer
     Only02,
@@ -420,6 +463,7 @@ impl By {
             Call::BaseValid { .. } => numbers[3] > 1,
             Call::RegionBaseValid { .. } => numbers[0] > 1,
             Call::BaseRange { .. } => matches!(numbers[0], 0 | 50),
+            Call::StrictVerdict => matches!(numbers[0], 0 | 38),
             _ => false,
         };
         match (has_rust, is_of_02) {
@@ -431,8 +475,8 @@ impl By {
     }
 }
 
-/// The Rust's answer where it has one, which document 01's must agree with, else that of document 01; document 02's is why a base is not valid, and
-/// the answer over a range of bases.
+/// The Rust's answer where it has one, which document 01's must agree with, else that of document 01; document 02's is why a base is not valid, the
+/// answer over a range of bases, and the strict verdict on what the verdict accepts.
 pub fn answer(sheet: &[u8], rust: &Rust, call: Call) -> Result<Answer, Difference> {
     let (mut lent, mut rust_lent) = (call.to_lend(), call.to_lend());
     let by_paper = call.by_paper(sheet, &mut lent);
@@ -448,19 +492,19 @@ pub fn answer(sheet: &[u8], rust: &Rust, call: Call) -> Result<Answer, Differenc
     };
     let differ = |between: Between| move |what: String| Difference { sheet: sheet.to_vec(), call, what, between };
     let has_rust = by_rust.and_then(same).map_err(differ(Between::Rust))?;
-    if call == Call::Verdict {
-        verdict_alike(sheet, rust, &by_paper)?;
-    }
+    others_alike(sheet, rust, call, &by_paper)?;
     let asked = call.numbers() + usize::from(!call.is_by_words());
     let numbers = (0..asked).map(|which| at(which as u32, &by_paper)).collect();
     Ok(Answer { numbers, lent, by: By::of(call, has_rust, &by_paper) })
 }
 
-/// The Rust reads what document 01 does, and plain Rust gives its verdict.
-fn verdict_alike(sheet: &[u8], rust: &Rust, by_paper: &Numbers) -> Result<(), Difference> {
-    let differ = |between: Between| move |what: String| Difference { sheet: sheet.to_vec(), call: Call::Verdict, what, between };
-    readable_alike(rust, by_paper[0]).map_err(differ(Between::Rust))?;
-    plain_alike(sheet, &by_paper[..6]).map_err(differ(Between::Plain))
+/// The Rust reads what document 01 does, and plain Rust gives its numbers.
+fn others_alike(sheet: &[u8], rust: &Rust, call: Call, by_paper: &Numbers) -> Result<(), Difference> {
+    let differ = |between: Between| move |what: String| Difference { sheet: sheet.to_vec(), call, what, between };
+    if call == Call::Verdict {
+        readable_alike(rust, by_paper[0]).map_err(differ(Between::Rust))?;
+    }
+    call.plain_gives(sheet, by_paper).map_err(differ(Between::Plain))
 }
 
 /// The decoder that feeds the Rust takes exactly the sheets that document 01 calls readable, and the Rust does not panic on the domain.
@@ -474,22 +518,9 @@ fn readable_alike(rust: &Rust, number: u64) -> Result<(), String> {
     Ok(())
 }
 
-/// Plain Rust gives document 01's verdict.
-pub fn plain_alike(sheet: &[u8], by_paper: &[u64]) -> Result<(), String> {
-    let by_plain = plain::numbers(sheet);
-    if by_plain != by_paper {
-        return Err(format!("plain Rust says {by_plain:?}; document 01 says {by_paper:?}"));
-    }
-    Ok(())
-}
-
-/// Plain Rust gives the numbers of an answer over a range.
-fn range_alike(sheet: &[u8], (mask, region, lowest, highest): (u32, u64, u64, u64), by_paper: &Numbers) -> Result<(), String> {
-    let by_plain = ranges::by_plain(sheet, mask, region, (lowest, highest));
-    if by_plain != by_paper[..4] {
-        return Err(format!("plain Rust says {by_plain:?}; document 02 says {:?}", &by_paper[..4]));
-    }
-    Ok(())
+/// Plain Rust gives document 01's verdict and strict verdict.
+pub fn plain_alike(sheet: &[u8]) -> Result<(), String> {
+    [Call::Verdict, Call::StrictVerdict].into_iter().try_for_each(|call| call.plain_gives(sheet, &call.by_paper(sheet, &mut [])))
 }
 
 /// What differs of a number, or of the bytes. Of the other: who it is, its number, all its numbers, and the bytes that it leaves.

@@ -26,6 +26,7 @@ mod sheet;
 mod short;
 mod shrink;
 mod speed;
+mod strict;
 mod tally;
 
 use calls::Calls;
@@ -156,23 +157,25 @@ fn every_refusal(tally: &Tally) -> Result<(), String> {
     if !missing.is_empty() || !missing_with_rust.is_empty() {
         return Err(format!("refusals that were not met: {missing:?}, with the Rust: {missing_with_rust:?}"));
     }
-    println!("every refusal from 1 to 37 and 50 was met, and every one of the Rust's domain with the Rust");
+    println!("every refusal from 1 to 38 and 50 was met, and every one of the Rust's domain with the Rust");
     Ok(())
 }
 
-/// Random sheets among which every answer for each sort of alignments must be, each combination of what is wrong with a base, and each sort of
-/// ranges.
+/// Random sheets among which every answer for each sort of alignments must be, each combination of what is wrong with a base, each sort of ranges, and
+/// each sort of strict verdicts.
 const ENOUGH: u64 = 100_000;
 
-/// Every answer for each sort of alignments was met, every answer and each combination of faults of a base, and every answer and each sort of ranges.
+/// Every answer for each sort of alignments was met, every answer and each combination of faults of a base, every answer and each sort of ranges, and
+/// of strict verdicts each sort and every refusal.
 fn every_answer(sort: &str, tally: &Tally) -> Result<(), String> {
     let (alignments, bases, ranges) = (tally.alignments.missing(), tally.bases.missing(), tally.ranges.missing());
-    if !alignments.is_empty() || !bases.is_empty() || !ranges.is_empty() {
+    let (strict, refusals) = (tally.strict.missing(), tally.missing_strict());
+    if !alignments.is_empty() || !bases.is_empty() || !ranges.is_empty() || !strict.is_empty() || !refusals.is_empty() {
         let missing = format!("of alignments these were not met: {alignments:?}, of bases: {bases:?}, of ranges: {ranges:?}");
-        return Err(format!("{sort} sheets: {missing}"));
+        return Err(format!("{sort} sheets: {missing}, of strict verdicts: {strict:?}, and refusals {refusals:?}"));
     }
     println!("{sort} sheets: every answer for each sort of alignments was met, every answer and combination of faults of a base,");
-    println!("  and every answer and sort of a range");
+    println!("  every answer and sort of a range, and every sort and refusal of a strict verdict");
     Ok(())
 }
 
@@ -258,14 +261,15 @@ fn caught_copy((name, what, calls): &(&str, &str, Calls), o: &Options) -> Option
     let by = match smallest.between {
         Between::Rust => "the Rust",
         Between::Paper => "document 01",
+        Between::Calls => "the verdict",
         Between::Plain => return None,
     };
     Some(format!("caught {name} ({what}): {place}, by {by}; {} bytes, {:?}", smallest.sheet.len(), smallest.call))
 }
 
-/// The line that `admit` writes of a verdict.
-fn line(calls: &Calls, sheet: &[u8]) -> String {
-    let [number, row, detail, p, i, d] = [0, 1, 2, 3, 4, 5].map(|which| Call::Verdict.ask(calls, sheet, &mut [], which));
+/// The line that `admit` writes of a verdict, and the same of the strict one.
+fn line(calls: &Calls, verdict: Call, sheet: &[u8]) -> String {
+    let [number, row, detail, p, i, d] = [0, 1, 2, 3, 4, 5].map(|which| verdict.ask(calls, sheet, &mut [], which));
     match number {
         0 => format!("accepted {p} {i} {d}"),
         _ => format!("refused {number} row {row} detail {detail}"),

@@ -4,7 +4,7 @@ use crate::compare::{plain_alike, Call};
 use crate::random::Random;
 use crate::run::on_threads;
 use crate::sheet::{fields_length, hex, Image, Row};
-use crate::{generate, large, paper, plan};
+use crate::{generate, large, plan};
 use calls::Calls;
 use std::collections::BTreeMap;
 
@@ -170,8 +170,8 @@ fn is_accepted(calls: &Calls, sheet: &[u8]) -> bool {
 fn same_answers(calls: &Calls, random: &mut Random, r: &Reordered, counts: &mut Counts) -> Result<(), String> {
     let (a, b) = (r.a.bytes(), r.b.bytes());
     counts.reordered += 1;
-    plain_alike(&a, &paper::verdict(&a))?;
-    plain_alike(&b, &paper::verdict(&b))?;
+    plain_alike(&a)?;
+    plain_alike(&b)?;
     if (1..=6).contains(&number(calls, &b, Call::Verdict, 0)) {
         return Err("the reordered sheet is not readable".into());
     }
@@ -328,7 +328,7 @@ fn swapped(calls: &Calls, random: &mut Random, image: &Image, counts: &mut Count
         let mut other = image.clone();
         other.lists[list].swap(i, j);
         let (one, other) = (image.bytes(), other.bytes());
-        plain_alike(&other, &paper::verdict(&other)).map_err(|what| format!("{what}\n  {}", hex(&other)))?;
+        plain_alike(&other).map_err(|what| format!("{what}\n  {}", hex(&other)))?;
         let differs = u64::from(is_accepted(calls, &one) != is_accepted(calls, &other));
         let (swaps, differ) = match list {
             0 => (&mut counts.platform_swaps, &mut counts.platform_swaps_differ),

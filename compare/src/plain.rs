@@ -43,9 +43,9 @@ fn judge(sheet: &Sheet, room: &mut [Region]) -> Result<[u64; 3], Refusal> {
     Ok(sheet.lists.map(|entries| entries.len() as u64))
 }
 
-/// The verdict's numbers as the calls have them: number, row, detail, and the rows of each list.
-pub fn numbers(sheet: &[u8]) -> [u64; 6] {
-    match verdict(sheet) {
+/// A verdict's numbers as the calls have them: number, row, detail, and the rows of each list.
+pub fn numbers(judged: Result<[u64; 3], Refusal>) -> [u64; 6] {
+    match judged {
         Ok([p, i, d]) => [0, 0, 0, p, i, d],
         Err(Refusal(number, row, detail)) => [number, row, detail, 0, 0, 0],
     }

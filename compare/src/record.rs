@@ -411,12 +411,13 @@ impl Case {
             Call::RegionBaseValid { .. } => 4,
             Call::RegionContains { .. } => 5,
             Call::BaseRange { .. } => 6,
+            Call::StrictVerdict => 7,
         }
     }
 
     fn group(&self) -> Group {
         let found = match self.call {
-            Call::Verdict => 0,
+            Call::Verdict | Call::StrictVerdict => 0,
             _ => self.check().min(6),
         };
         let faults = self.base().filter(|_| !self.is_large()).map(|(words, base)| Faults::of(&words, base));
@@ -467,7 +468,7 @@ impl Case {
     /// u64, highest base u64, lent bytes u32, how many bytes follow u32.
     fn bytes(&self) -> Vec<u8> {
         let (region, value, highest, lent) = match self.call {
-            Call::Verdict => (0, 0, 0, 0),
+            Call::Verdict | Call::StrictVerdict => (0, 0, 0, 0),
             Call::Relocations { lent, .. } => (0, 0, 0, lent),
             Call::BaseValid { region, base, .. } => (region, base, 0, 0),
             Call::Contains { region, gpa, .. } => (region, gpa, 0, 0),
@@ -490,6 +491,7 @@ impl Case {
         let who = self.answered().1;
         let call = match self.call {
             Call::Verdict => "verdict".into(),
+            Call::StrictVerdict => "strict_verdict".into(),
             Call::Relocations { mask, lent } => format!("relocations mask {mask} lent {lent}"),
             Call::BaseValid { mask, region, base } => format!("relocation_base_valid mask {mask} region {region} base {base}"),
             Call::Contains { mask, region, gpa } => format!("contains mask {mask} region {region} gpa {gpa}"),

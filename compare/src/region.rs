@@ -105,7 +105,7 @@ pub fn alike(
             same(calls, sheet, rust, call, &lent[64 * region as usize..][..64], agreed)?;
             agreed.regions += 1;
         }
-        Call::Verdict | Call::RegionBaseValid { .. } | Call::RegionContains { .. } => {}
+        Call::Verdict | Call::StrictVerdict | Call::RegionBaseValid { .. } | Call::RegionContains { .. } => {}
     }
     Ok(())
 }

@@ -18,7 +18,7 @@ impl<'a> Run<'a> {
         Run { calls, tally: Tally::default() }
     }
 
-    /// The verdict, then queries: one of a refused sheet; of an accepted one some, or all once in 256 times if it is not large.
+    /// The two verdicts, then queries: one of a refused sheet; of an accepted one some, or all once in 256 times if it is not large.
     pub fn sheet(&mut self, random: &mut Random, sheet: &[u8]) -> Result<(), Difference> {
         let rust = Rust::of(sheet);
         let queries = match self.verdict(sheet, &rust, random.next())? {
@@ -29,9 +29,12 @@ impl<'a> Run<'a> {
         self.queries(sheet, &rust, &queries, random.next())
     }
 
-    /// The verdict on a sheet. Gives its number.
+    /// The verdict and the strict verdict on a sheet. Gives the verdict's number.
     pub fn verdict(&mut self, sheet: &[u8], rust: &Rust, case: u64) -> Result<u64, Difference> {
         let number = check(self.calls, sheet, rust, Call::Verdict, Extent::Case(case))?.number;
+        let strict = check(self.calls, sheet, rust, Call::StrictVerdict, Extent::Case(case))?;
+        self.tally.strict_verdicts[strict.number as usize] += 1;
+        self.tally.strict.add(&strict.strict);
         self.count(sheet, rust, number);
         if matches!(number, 0 | 20) {
             self.tally.alignments.verdict(sheet, number, Call::Verdict.ask(self.calls, sheet, &mut [], 1));

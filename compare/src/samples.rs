@@ -4,7 +4,7 @@ use crate::compare::{check, Call, Extent, Rust};
 use crate::library::LIBRARY;
 use crate::random::Random;
 use crate::sheet::hex;
-use crate::{generate, large, line, paper, plain, plan};
+use crate::{generate, large, line, paper, plain, plan, strict};
 use calls::Calls;
 use std::fs;
 use std::path::Path;
@@ -16,14 +16,15 @@ pub fn replay(calls: &Calls, folder: &str) -> Result<(), String> {
     for entry in list.lines() {
         let (name, expected) = entry.split_once(": ").ok_or(format!("{folder}.txt: {entry}"))?;
         let sheet = fs::read(Path::new(folder).join(name)).map_err(|e| format!("{name}: {e}"))?;
-        for (who, said) in [("the calls say", line(calls, &sheet)), ("document 01 in Rust says", line(&paper::CALLS, &sheet))] {
+        for (who, calls) in [("the calls say", calls), ("document 01 in Rust says", &paper::CALLS)] {
+            let said = line(calls, Call::Verdict, &sheet);
             if said != expected {
                 return Err(format!("sample {name}: {expected}; {who} {said}"));
             }
         }
         let rust = Rust::of(&sheet);
         with_rust += u64::from(rust.judged.is_some());
-        for call in [vec![Call::Verdict], plan::all(&sheet)].concat() {
+        for call in [vec![Call::Verdict, Call::StrictVerdict], plan::all(&sheet)].concat() {
             check(calls, &sheet, &rust, call, Extent::All).map_err(|d| format!("sample {name}: {:?}: {}", d.call, d.what))?;
         }
         count += 1;
@@ -37,7 +38,7 @@ pub fn emit(seed: u64, cases: u64) -> Result<(), String> {
     let sheets = (0..cases).map(|case| generate::sheet(&mut Random::new(seed, case)));
     let large = (0..cases / 500).map(|case| large::sheet(&mut Random::new(seed, case)));
     for sheet in sheets.chain(large) {
-        println!("{} {}", hex(&sheet), line(&paper::CALLS, &sheet));
+        println!("{} {}", hex(&sheet), line(&paper::CALLS, Call::Verdict, &sheet));
     }
     Ok(())
 }
@@ -47,10 +48,13 @@ pub fn one(digits: &str) -> Result<(), String> {
     let digit = |at: usize| digits.get(at..at + 2).and_then(|two| u8::from_str_radix(two, 16).ok());
     let sheet: Option<Vec<u8>> = (0..digits.len()).step_by(2).map(digit).collect();
     let sheet = sheet.ok_or("not hexadecimal digits, two for a byte")?;
-    println!("document 01: {}", line(&paper::CALLS, &sheet));
-    println!("plain Rust: {:?}", plain::numbers(&sheet));
-    if let Some(library) = LIBRARY {
-        println!("library: {}", line(&library, &sheet));
+    let by_plain = [plain::verdict(&sheet), strict::by_plain(&sheet)].map(plain::numbers);
+    for ((verdict, call), by_plain) in [("", Call::Verdict), (", strict", Call::StrictVerdict)].into_iter().zip(by_plain) {
+        println!("document 01{verdict}: {}", line(&paper::CALLS, call, &sheet));
+        println!("plain Rust{verdict}: {by_plain:?}");
+        if let Some(library) = LIBRARY {
+            println!("library{verdict}: {}", line(&library, call, &sheet));
+        }
     }
     let Some(headers) = oracle::Headers::decode(&sheet) else {
         println!("the Rust: no headers");

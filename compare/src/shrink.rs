@@ -113,7 +113,7 @@ fn bytes(sheet: &[u8]) -> Vec<Vec<u8>> {
 
 fn calls_below(call: Call) -> Vec<Call> {
     match call {
-        Call::Verdict => vec![],
+        Call::Verdict | Call::StrictVerdict => vec![],
         Call::RegionBaseValid { base } => smaller_values(base).into_iter().map(|base| Call::RegionBaseValid { base }).collect(),
         Call::RegionContains { gpa } => smaller_values(gpa).into_iter().map(|gpa| Call::RegionContains { gpa }).collect(),
         Call::Relocations { mask, lent } => {

@@ -4,13 +4,14 @@ use crate::alignments::Alignments;
 use crate::bases::Bases;
 use crate::columns::Columns;
 use crate::ranges::Ranges;
+use crate::strict::Strict;
 
-/// Counts by refusal: 0 for accepted or answered, then the refusals. There is none from 38 to 49.
+/// Counts by refusal: 0 for accepted or answered, then the refusals. There is none from 39 to 49.
 pub type Histogram = [u64; 51];
 
 /// The refusals.
 pub fn refusals() -> impl Iterator<Item = usize> {
-    (1..38).chain([50])
+    (1..39).chain([50])
 }
 
 #[derive(Clone)]
@@ -27,6 +28,8 @@ pub struct Tally {
     pub large_verdicts: Histogram,
     /// the same, of those that allocate more areas than the library's small table has room for
     pub areas_verdicts: Histogram,
+    /// strict verdicts by document 02's number
+    pub strict_verdicts: Histogram,
     /// queries by number
     pub queries: Histogram,
     /// regions of lists and of checks that were checked by their words too
@@ -37,6 +40,8 @@ pub struct Tally {
     pub bases: Bases,
     /// ranges of bases, by answer and by sort
     pub ranges: Ranges,
+    /// strict verdicts by answer and by sort
+    pub strict: Strict,
     /// rows of kind 46 for which the Rust's error names X64VbsVpContext
     pub names_other_kind: u64,
 }
@@ -51,11 +56,13 @@ impl Default for Tally {
             rust_verdicts: none,
             large_verdicts: none,
             areas_verdicts: none,
+            strict_verdicts: none,
             queries: none,
             regions: 0,
             alignments: Alignments::default(),
             bases: Bases::default(),
             ranges: Ranges::default(),
+            strict: Strict::default(),
             names_other_kind: 0,
         }
     }
@@ -69,19 +76,26 @@ impl Tally {
         self.alignments.add(&other.alignments);
         self.bases.add(&other.bases);
         self.ranges.add(&other.ranges);
+        self.strict.add(&other.strict);
         self.names_other_kind += other.names_other_kind;
         for number in 0..51 {
             self.verdicts[number] += other.verdicts[number];
             self.rust_verdicts[number] += other.rust_verdicts[number];
             self.large_verdicts[number] += other.large_verdicts[number];
             self.areas_verdicts[number] += other.areas_verdicts[number];
+            self.strict_verdicts[number] += other.strict_verdicts[number];
             self.queries[number] += other.queries[number];
         }
     }
 
     /// The refusals that no call met.
     pub fn missing(&self) -> Vec<usize> {
-        refusals().filter(|&number| self.verdicts[number] + self.queries[number] == 0).collect()
+        refusals().filter(|&number| self.verdicts[number] + self.strict_verdicts[number] + self.queries[number] == 0).collect()
+    }
+
+    /// The refusals of the verdict, from 1 to 34, that the strict one did not give.
+    pub fn missing_strict(&self) -> Vec<usize> {
+        (1..35).filter(|&number| self.strict_verdicts[number] == 0).collect()
     }
 
     /// The refusals of the Rust's domain (7 to 34 but 19, 27, 28) that no comparison with the Rust met.
@@ -94,15 +108,18 @@ impl Tally {
         println!("{} sheets, {} of them compared with the Rust too", self.cases, self.with_rust);
         let [large, areas] = [self.large_verdicts, self.areas_verdicts].map(|verdicts| verdicts.iter().sum::<u64>());
         println!("{large} readable ones have more than 1,024 directive rows, {areas} of them more than 1,024 areas of 1,024 and above");
-        println!("{:>6} {:>12} {:>12} {:>12} {:>12} {:>12}", "number", "verdicts", "by the Rust", "1,025 rows", "1,025 areas", "queries");
+        let columns = ["verdicts", "by the Rust", "1,025 rows", "1,025 areas", "strict", "queries"];
+        println!("{:>6} {}", "number", columns.map(|column| format!("{column:>12}")).join(" "));
         for number in [0].into_iter().chain(refusals()) {
-            let all = [&self.verdicts, &self.rust_verdicts, &self.large_verdicts, &self.areas_verdicts, &self.queries];
+            let [large, areas] = [&self.large_verdicts, &self.areas_verdicts];
+            let all = [&self.verdicts, &self.rust_verdicts, large, areas, &self.strict_verdicts, &self.queries];
             println!("{number:>6} {}", all.map(|counts| format!("{:>12}", counts[number])).join(" "));
         }
         println!("{} regions were checked by their words too", self.regions);
         self.alignments.print();
         println!("bases: {}", self.bases.text());
         println!("ranges of bases: {}", self.ranges.text());
+        println!("strict verdicts: {}", self.strict.text());
         println!("the Rust named X64VbsVpContext for a row of kind 46: {} times", self.names_other_kind);
     }
 }
