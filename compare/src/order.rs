@@ -24,6 +24,11 @@ struct Counts {
     /// of more than 1,024 directive rows
     large: u64,
     accepted: u64,
+    strictly_accepted: u64,
+    refused_by_38: u64,
+    /// of these, those with another row, and those with another detail
+    other_rows: u64,
+    other_details: u64,
     regions: u64,
     bases: u64,
     ranges: u64,
@@ -38,6 +43,10 @@ impl Counts {
         self.reordered += other.reordered;
         self.large += other.large;
         self.accepted += other.accepted;
+        self.strictly_accepted += other.strictly_accepted;
+        self.refused_by_38 += other.refused_by_38;
+        self.other_rows += other.other_rows;
+        self.other_details += other.other_details;
         self.regions += other.regions;
         self.bases += other.bases;
         self.ranges += other.ranges;
@@ -60,6 +69,10 @@ pub fn run(calls: &Calls, seed: u64, cases: u64, threads: usize) -> Result<(), S
   {} paired regions, {} bases, {} ranges of bases",
         c.reordered, c.accepted, c.large, c.regions, c.bases, c.ranges
     );
+    println!(
+        "  {} strictly accepted, {} refused by 38, {} of these with another row and {} with another bit in the other order",
+        c.strictly_accepted, c.refused_by_38, c.other_rows, c.other_details
+    );
     println!("  two platforms of one mask swapped: {} times, the verdict differs {} times", c.platform_swaps, c.platform_swaps_differ);
     println!(
         "  two directives of one area swapped: {} times, the verdict differs {} times; {:.1?}",
@@ -67,7 +80,8 @@ pub fn run(calls: &Calls, seed: u64, cases: u64, threads: usize) -> Result<(), S
         c.area_swaps_differ,
         start.elapsed()
     );
-    if c.accepted == 0 || c.accepted == c.reordered || c.platform_swaps_differ == 0 || c.area_swaps_differ == 0 {
+    let must_be_met = [c.accepted, c.strictly_accepted, c.refused_by_38, c.other_rows, c.platform_swaps_differ, c.area_swaps_differ];
+    if must_be_met.contains(&0) || c.accepted == c.reordered {
         return Err("order: some of these counts may not be 0, and some sheets must be refused".into());
     }
     Ok(())
@@ -178,6 +192,7 @@ fn same_answers(calls: &Calls, random: &mut Random, r: &Reordered, counts: &mut 
     if is_accepted(calls, &a) != is_accepted(calls, &b) {
         return Err("one is accepted, the other is not".into());
     }
+    same_strict_verdict(calls, &a, &b, counts)?;
     if !is_accepted(calls, &a) {
         return Ok(());
     }
@@ -195,6 +210,22 @@ fn same_answers(calls: &Calls, random: &mut Random, r: &Reordered, counts: &mut 
                 counts.ranges += same_ranges(calls, mask, (&a, n), (&b, m), &ranges(random, &r.a.lists[1][i]))?;
             }
         }
+    }
+    Ok(())
+}
+
+/// Both are strictly accepted, or both refused: by 38, whose row and bit may differ, or as the verdict refuses.
+fn same_strict_verdict(calls: &Calls, a: &[u8], b: &[u8], counts: &mut Counts) -> Result<(), String> {
+    let [of_a, of_b] = [a, b].map(|sheet| [0, 1, 2].map(|which| number(calls, sheet, Call::StrictVerdict, which)));
+    match (of_a[0], of_b[0]) {
+        (0, 0) => counts.strictly_accepted += 1,
+        (38, 38) => {
+            counts.refused_by_38 += 1;
+            counts.other_rows += u64::from(of_a[1] != of_b[1]);
+            counts.other_details += u64::from(of_a[2] != of_b[2]);
+        }
+        (0 | 38, _) | (_, 0 | 38) => return Err(format!("the strict verdicts are {of_a:?} and {of_b:?}")),
+        _ => {}
     }
     Ok(())
 }
