@@ -31,6 +31,8 @@ struct Placed {
     region_base_valid: Option<unsafe extern "C" fn(*const u8, usize, u64) -> u64>,
     /// nor this
     relocation_base_range: Option<unsafe extern "C" fn(*const u8, usize, u32, u64, u64, u64, u32) -> u64>,
+    /// nor this
+    strict_verdict: Option<unsafe extern "C" fn(*const u8, usize, u32) -> u64>,
 }
 
 impl Placed {
@@ -53,6 +55,7 @@ impl Placed {
             let verdict_numbers = dlsym(handle, c"igvm_verdict_numbers".as_ptr());
             let region_base_valid = dlsym(handle, c"igvm_region_base_valid".as_ptr());
             let relocation_base_range = dlsym(handle, c"igvm_relocation_base_range".as_ptr());
+            let strict_verdict = dlsym(handle, c"igvm_strict_verdict".as_ptr());
             Ok(Placed {
                 verdict: std::mem::transmute(verdict),
                 relocations: std::mem::transmute(relocations),
@@ -60,6 +63,7 @@ impl Placed {
                 verdict_numbers: std::mem::transmute(verdict_numbers),
                 region_base_valid: std::mem::transmute(region_base_valid),
                 relocation_base_range: std::mem::transmute(relocation_base_range),
+                strict_verdict: std::mem::transmute(strict_verdict),
             })
         }
     }
@@ -70,6 +74,7 @@ impl Placed {
             Question::Numbers => self.verdict_numbers.is_some(),
             Question::Bases(_) => self.region_base_valid.is_some(),
             Question::Range => self.relocation_base_range.is_some(),
+            Question::Strict(_) => self.strict_verdict.is_some(),
             Question::Loader => false,
             Question::Accepted | Question::Refused(_) | Question::Relocations | Question::Check => true,
         }
@@ -83,6 +88,7 @@ impl Placed {
             Question::Numbers => unsafe { self.verdict_numbers.expect("the call")(sheet.as_ptr(), sheet.len(), lent.as_mut_ptr(), 48) },
             Question::Check => unsafe { (self.relocation_base_valid)(sheet.as_ptr(), sheet.len(), 1, region, base, 3) },
             Question::Range => unsafe { self.relocation_base_range.expect("the call")(sheet.as_ptr(), sheet.len(), 1, region, 1, base, 3) },
+            Question::Strict(_) => unsafe { self.strict_verdict.expect("the call")(sheet.as_ptr(), sheet.len(), 0) },
             _ => unsafe { (self.verdict)(sheet.as_ptr(), sheet.len(), 0) },
         }
     }

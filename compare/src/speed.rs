@@ -5,7 +5,7 @@ use crate::memory::Sheet;
 use crate::region::{by_plain, words};
 use crate::sheet::{Image, Row};
 use crate::short::{native, page_table, region, vbs};
-use crate::{loader, paper, plain, ranges};
+use crate::{loader, paper, plain, ranges, strict};
 use calls::Calls;
 use oracle::{Headers, IgvmFile, Relocated};
 use std::hint::black_box;
@@ -98,8 +98,10 @@ pub enum Question {
     Check,
     /// the check by the sheet of a range of bases, of the last region, from 1 to that base
     Range,
+    /// the strict verdict, where the verdict accepts: it accepts too, or refuses the last region by 38
+    Strict(u64),
 }
-use Question::{Accepted, Bases, Check, Loader, Numbers, Range, Refused, Relocations};
+use Question::{Accepted, Bases, Check, Loader, Numbers, Range, Refused, Relocations, Strict};
 
 /// How many bases are checked at a time, since a check is as short as what it takes to measure one.
 const BASES: u64 = 64;
@@ -173,7 +175,7 @@ impl Case {
         let top = maximum.saturating_sub(size);
         let last = (last as u64, top - top.checked_rem(alignment).unwrap_or(0));
         let answer = match question {
-            Refused(number) => number,
+            Refused(number) | Strict(number) => number,
             Check => paper::relocation_base_valid(&sheet, 1, last.0, last.1)[3],
             Range => paper::relocation_base_range(&sheet, 1, last.0, 1, last.1)[3],
             Accepted | Numbers | Relocations | Loader | Bases(_) => 0,
@@ -181,11 +183,16 @@ impl Case {
         Case { name, sheet, headers, region: region(0), question, last, answer }
     }
 
-    /// Document 01 and the Rust accept the image, or refuse it, as the question says.
+    /// Document 01 and the Rust accept the image, or refuse it, as the question says; and the strict verdict does.
     fn check(&self) {
         assert_eq!(paper::verdict(&self.sheet)[0], self.number(), "{}: document 01", self.name);
         let judged = self.headers.verdict().expect("no panic");
         assert_eq!(judged.numbers[0], self.number(), "{}: the Rust", self.name);
+        if let Strict(number) = self.question {
+            let last = (self.headers.platforms.len() + self.headers.initializations.len()) as u64;
+            let row = if number == 0 { 0 } else { last };
+            assert_eq!(paper::strict_verdict(&self.sheet)[..2], [number, row], "{}: document 02", self.name);
+        }
         if let Some(load) = loader::BY_LIBRARY.filter(|_| self.question == Loader) {
             let hold = load(&self.headers).0;
             assert_eq!((hold, loader::by_rust(self.headers.clone()).0), (63, 63), "{}: both checks hold for each region", self.name);
@@ -215,11 +222,11 @@ impl Case {
         matches!(self.question, Bases(_))
     }
 
-    /// The number of the refusal, 0 where there is none.
+    /// The number of the verdict's refusal, 0 where there is none.
     pub fn number(&self) -> u64 {
         match self.question {
             Refused(number) => number,
-            Accepted | Numbers | Relocations | Loader | Bases(_) | Check | Range => 0,
+            Accepted | Numbers | Relocations | Loader | Bases(_) | Check | Range | Strict(_) => 0,
         }
     }
 
@@ -236,34 +243,44 @@ impl Case {
     }
 
     /// `relocations` alone and the verdict for one number are no sides of that verdict, plain Rust has no region list, a loader starts from
-    /// headers, and bases are checked by a region's words. The Rust has no check of a range, and beside one stands the check of a base.
+    /// headers, and bases are checked by a region's words. The Rust has no check of a range and no strict verdict, and beside a range stands the check
+    /// of a base.
     pub fn has(&self, side: Side) -> bool {
         match side {
             Alone => self.question == Relocations,
-            Verdict => matches!(self.question, Numbers | Relocations | Check | Range),
+            Verdict => matches!(self.question, Numbers | Relocations | Check | Range | Strict(_)),
             Base => self.question == Range,
             Plain => !matches!(self.question, Relocations | Loader | Check),
-            Bytes => !matches!(self.question, Loader | Bases(_) | Range),
-            Ready => self.question != Range,
+            Bytes => !matches!(self.question, Loader | Bases(_) | Range | Strict(_)),
+            Ready => !matches!(self.question, Range | Strict(_)),
             Library => true,
         }
     }
 
-    fn ask(&self, calls: &Calls, lent: &mut [u8]) -> u64 {
+    fn ask(&self, calls: &Calls, question: Question, lent: &mut [u8]) -> u64 {
         let sheet = black_box(&self.sheet[..]);
-        match self.question {
+        match black_box(question) {
             Relocations => (calls.relocations)(sheet, 1, lent, 0),
             Numbers => (calls.verdict_numbers)(sheet, &mut lent[..48]),
             Accepted | Refused(_) => (calls.verdict)(sheet, 0),
             Check => (calls.relocation_base_valid)(sheet, 1, self.last.0, self.last.1, 3),
             Range => (calls.relocation_base_range)(sheet, 1, self.last.0, 1, self.last.1, 3),
+            Strict(_) => (calls.strict_verdict)(sheet, 0),
             Loader | Bases(_) => unreachable!("more than one call"),
         }
     }
 
-    fn plain(&self) -> Result<[u64; 3], paper::Refusal> {
-        let answer = plain::verdict(black_box(&self.sheet[..]));
-        assert_eq!(answer.as_ref().map_or_else(|refusal| refusal.0, |_| 0), self.number());
+    /// So many calls that ask this and give this answer, after one that is not measured.
+    fn asked(&self, calls: &Calls, question: Question, answer: u64, times: usize) -> Duration {
+        let mut lent = [0; 64 * 64];
+        self.ask(calls, question, &mut lent);
+        time(vec![(); times], |()| assert_eq!(self.ask(calls, question, &mut lent), answer))
+    }
+
+    /// The verdict by plain Rust, or the strict one.
+    fn plain(&self, verdict: fn(&[u8]) -> Result<[u64; 3], paper::Refusal>) -> Result<[u64; 3], paper::Refusal> {
+        let answer = verdict(black_box(&self.sheet[..]));
+        assert_eq!(answer.as_ref().map_or_else(|refusal| refusal.0, |_| 0), self.answer);
         answer
     }
 
@@ -292,21 +309,9 @@ impl Case {
         match side {
             Library if self.question == Loader => self.load(times),
             Library if self.has_bases() => self.check_bases(calls.region_base_valid, times),
-            Library => {
-                let mut lent = [0; 64 * 64];
-                self.ask(calls, &mut lent);
-                time(vec![(); times], |()| assert_eq!(self.ask(calls, &mut lent), self.answer))
-            }
-            Verdict => {
-                let sheet = black_box(&self.sheet[..]);
-                (calls.verdict)(sheet, 0);
-                time(vec![(); times], |()| assert_eq!((calls.verdict)(black_box(sheet), 0), self.number()))
-            }
-            Base => {
-                let (sheet, (region, base)) = (black_box(&self.sheet[..]), self.last);
-                (calls.relocation_base_valid)(sheet, 1, region, base, 3);
-                time(vec![(); times], |()| assert_eq!((calls.relocation_base_valid)(black_box(sheet), 1, region, base, 3), 1))
-            }
+            Library => self.asked(calls, self.question, self.answer, times),
+            Verdict => self.asked(calls, Accepted, self.number(), times),
+            Base => self.asked(calls, Check, 1, times),
             Plain | Ready | Bytes | Alone => self.peer(side, times),
         }
     }
@@ -331,8 +336,9 @@ impl Case {
                 time(vec![(); times], |()| self.plain_range())
             }
             Plain => {
-                let _ = self.plain();
-                time(vec![(); times], |()| self.plain())
+                let verdict = if let Strict(_) = self.question { strict::by_plain } else { plain::verdict };
+                let _ = self.plain(verdict);
+                time(vec![(); times], |()| self.plain(verdict))
             }
             Ready if self.question == Loader => time(vec![self.headers.clone(); times], loader::by_rust),
             Ready => time(vec![self.headers.clone(); times], |headers| self.rust(headers)),
@@ -436,6 +442,12 @@ fn each_case(each: &mut dyn FnMut(String, &dyn Fn(String) -> Case)) {
     add("range-b".into(), Range, &b);
     add("range-64".into(), Range, &|| initializations(64));
     add("range-0x3000".into(), Range, &|| aligned(64, 0x3000));
+    add("strict-b".into(), Strict(0), &b);
+    add("strict-64".into(), Strict(0), &|| initializations(64));
+    add("strict-table-64".into(), Strict(0), &|| with_table(64));
+    add("strict-bits-64".into(), Strict(0), &|| context_for_each_bit(64));
+    add("strict-pages-1024".into(), Strict(0), &|| pages(1024, 0));
+    add("strict-refused-64".into(), Strict(38), &|| last_lacks_bit(64));
     for alignment in [0x1000, 0x20_0000, 0x4000_0000, 1 << 57, 0x3000, 0x5000, 0x60_0000] {
         add(format!("aligned-{}", named(alignment)), Accepted, &|| aligned(64, alignment));
     }
@@ -494,6 +506,20 @@ fn descending(rows: u64, mask: u64) -> Image {
     let mut initializations: Vec<Row> = (0..rows - 1).rev().map(|row| region(mask, 0x2000 * row, 0x2000)).collect();
     initializations.push(page_table(mask, 0x2000 * rows, 0x2000));
     image(initializations, vec![vbs(0, mask, 0)])
+}
+
+/// The same with all 32 bits, and a context for each of them.
+fn context_for_each_bit(rows: u64) -> Image {
+    let mut image = descending(rows, 0xFFFF_FFFF);
+    image.lists[2] = (0..32).map(|place| vbs(0, 1 << place, 0)).collect();
+    image
+}
+
+/// The last region has a bit without a context.
+fn last_lacks_bit(rows: u64) -> Image {
+    let mut image = initializations(rows);
+    image.lists[1].last_mut().unwrap().set("mask", 3);
+    image
 }
 
 /// The last region overlaps the first.
