@@ -262,6 +262,14 @@ pub fn areas_and_region() -> Image {
     image_with(vec![region(1, 0x1000, 0x1000)], directives)
 }
 
+/// A region of two bits, for one of which a context stands in front of more than 1,024 rows, and for the other behind them.
+pub fn contexts_apart() -> Image {
+    let mut image = measurements(1100, vbs(0, 2, 0));
+    image.lists[1] = vec![region(3, 0x1000, 0x1000)];
+    image.lists[2].insert(0, vbs(0, 1, 0));
+    image
+}
+
 /// A region's context, and behind it so many pages.
 fn pages_behind_context(count: u64) -> Image {
     let pages = (0..count).map(|n| Row::new(32, &[0x1000 * n, 1, 0, 0]));

@@ -1,6 +1,6 @@
 //! A sample of answers for a replay without the Rust: `args`, `data/calls-1` and so on, and `stdout` of the program crates/replay. Every answer is
-//! the Rust's, or document 01's where the Rust has none; why a base is not valid, and what follows over a range of bases, is document 02's. The
-//! library is not asked. Among them are few sheets of more than 1,024 directive rows, made for what they show.
+//! the Rust's, or document 01's where the Rust has none; why a base is not valid, what follows over a range of bases, and the strict verdict on what the
+//! verdict accepts, is document 02's. The library is not asked. Among them are few sheets of more than 1,024 directive rows, made for what they show.
 
 use crate::bases::{Bases, Faults};
 use crate::columns::Columns;
@@ -9,10 +9,11 @@ use crate::generate::TOP;
 use crate::random::Random;
 use crate::ranges::{self, Ranges};
 use crate::sheet::{hex, Image, Row};
-use crate::short::{native, vbs};
-use crate::tally::refusals;
-use crate::{caught, generate, large, paper, plan, region, shrink};
+use crate::short::{native, one_page, vbs, vsm};
+use crate::tally::{refusals, Tally};
+use crate::{caught, generate, large, paper, plan, region, shrink, strict};
 use calls::Calls;
+use oracle::Headers;
 use std::collections::BTreeMap;
 use std::fs;
 use std::path::Path;
@@ -41,12 +42,14 @@ pub fn run(seed: u64, folder: &str, check: bool) -> Result<(), String> {
     let mut cases = sample(seed)?;
     cases.extend(region_bytes(seed)?);
     cases.extend(range_cases()?);
+    cases.extend(strict_cases()?);
     cases.extend(large_sheets()?);
     catch_wrong_copies(seed, &mut cases)?;
     cases.sort_by_key(|case| (case.number(), case.code()));
     every_refusal(&cases)?;
     every_base(&cases)?;
     every_range(&cases)?;
+    every_strict(&cases)?;
     let files = files(&cases);
     let lines: String = cases.iter().map(Case::line).collect();
     let by_rust = cases.iter().filter(|case| case.answer.by.is_rust()).count();
@@ -200,7 +203,56 @@ fn range_cases() -> Result<Vec<Case>, String> {
     cases.into_iter().collect()
 }
 
-/// The verdict on sheets of many directive rows, and the queries of one of them.
+/// A region, with kind, mask and VTL, or a context, with kind, mask and VTL or VP index.
+type Masked = (u64, u64, u64);
+
+/// An image with these regions, of a page each, and these contexts.
+fn with_contexts(arch: u8, regions: &[Masked], contexts: &[Masked]) -> Image {
+    let region = |(number, &(kind, mask, vtl)): (u64, &Masked)| one_page(kind, mask, vtl, number);
+    let context = |&(kind, mask, index): &Masked| Row::new(kind as u32, &[mask, index]);
+    Image::new(arch, [vec![vsm(1)], (0..).zip(regions).map(region).collect(), contexts.iter().map(context).collect()])
+}
+
+/// Images chosen for what the strict verdict on them shows. On both archs a region of either kind with two bits: with a context that has one of them, with one
+/// that has both, with one for each, and where one of another VTL or a native one has the other. Two regions in either order: both lack a bit, the page
+/// table does, and it is refused by 34 where the other lacks a bit, since it has no context or another VP index than 0. A region of all 32 bits, of which the
+/// highest, the lowest or none is without a context. Several bits and regions; a region behind rows of another kind, and one before a directive
+/// that is refused.
+fn strict_images() -> Vec<Image> {
+    let mut images = Vec::new();
+    for (arch, vbs, native) in [(0, 47, 46), (1, 48, 49)] {
+        let contexts: [&[Masked]; 5] =
+            [&[(vbs, 1, 0)], &[(vbs, 3, 0)], &[(vbs, 2, 0), (vbs, 1, 0)], &[(vbs, 1, 0), (vbs, 2, 1)], &[(vbs, 2, 0), (native, 3, 0)]];
+        images.extend(contexts.iter().flat_map(|contexts| [18, 19].map(|kind| with_contexts(arch, &[(kind, 3, 0)], contexts))));
+    }
+    let (region, table) = ((18, 3, 0), (19, 6, 1));
+    let of_two: [(&[Masked], u64); 4] =
+        [(&[(47, 1, 0), (47, 2, 1)], 0), (&[(47, 3, 0), (47, 2, 1)], 0), (&[(47, 1, 0)], 0), (&[(47, 1, 0), (47, 6, 1)], 1)];
+    for (contexts, vp) in of_two {
+        for (regions, at) in [([region, table], 1), ([table, region], 0)] {
+            let mut image = with_contexts(0, &regions, contexts);
+            image.lists[1][at].set("vp", vp);
+            images.push(image);
+        }
+    }
+    let every_bit = |contexts: &[Masked]| with_contexts(0, &[(18, 0xFFFF_FFFF, 2)], contexts);
+    images.extend([every_bit(&[(47, 0x7FFF_FFFF, 2)]), every_bit(&[(47, 0xFFFF_FFFE, 2)])]);
+    images.push(every_bit(&(0..32).map(|place| (47, 1 << place, 2)).collect::<Vec<_>>()));
+    images.push(with_contexts(0, &[(18, 15, 0), (18, 7, 0)], &[(47, 1, 0)]));
+    let [mut behind, mut before] = [(); 2].map(|()| with_contexts(0, &[region], &[(47, 1, 0)]));
+    behind.lists[1].splice(..0, [Row::new(16, &[0, 1]), Row::new(16, &[0, 2])]);
+    before.lists[2].push(Row::new(34, &[0, 0]));
+    images.extend([behind, before]);
+    images
+}
+
+/// The strict verdict on these images.
+fn strict_cases() -> Result<Vec<Case>, String> {
+    let sheets = strict_images().into_iter().map(|image| image.bytes());
+    sheets.map(|sheet| Case::new(&sheet, &Rust::of(&sheet), Call::StrictVerdict)).collect()
+}
+
+/// The verdict on sheets of many directive rows, the queries of one of them, and the strict verdict on another.
 fn large_sheets() -> Result<Vec<Case>, String> {
     let queries = [
         Call::Relocations { mask: 1, lent: 64 },
@@ -221,6 +273,8 @@ fn large_sheets() -> Result<Vec<Case>, String> {
     for query in queries {
         cases.push(Case::new(&sheet, &Rust::of(&sheet), query)?);
     }
+    let sheet = large::contexts_apart().bytes();
+    cases.push(Case::new(&sheet, &Rust::of(&sheet), Call::StrictVerdict)?);
     Ok(cases)
 }
 
@@ -289,8 +343,25 @@ fn every_range(cases: &[Case]) -> Result<(), String> {
     Ok(())
 }
 
+/// Every sort of strict verdicts, and every refusal of the verdict as the strict one gives it.
+fn every_strict(cases: &[Case]) -> Result<(), String> {
+    let mut tally = Tally::default();
+    for case in cases.iter().filter(|case| case.code() == 7) {
+        tally.strict_verdicts[case.number() as usize] += 1;
+        if let Some(headers) = Headers::decode(&case.sheet) {
+            tally.strict.met(&headers, &case.answer.numbers);
+        }
+    }
+    println!("  strict verdicts: {}", tally.strict.text());
+    let (missing, refusals) = (tally.strict.missing(), tally.missing_strict());
+    if !missing.is_empty() || !refusals.is_empty() {
+        return Err(format!("record: of strict verdicts these are not met: {missing:?}, and refusals {refusals:?}"));
+    }
+    Ok(())
+}
+
 /// Cases of one sort: the call, the refusal's number, the count of regions (6 for more) or the answer of a check, what is wrong with a base, the sort
-/// of a range, and whether the sheet is large.
+/// of a range or of a strict verdict, and whether the sheet is large.
 type Group = (u8, u64, u64, Option<Faults>, Option<u32>, bool);
 
 #[derive(Default)]
@@ -302,12 +373,13 @@ struct Sample {
 }
 
 impl Sample {
-    /// The verdict, and queries as a run makes them.
+    /// The two verdicts, and queries as a run makes them.
     fn offer_sheet(&mut self, random: &mut Random, sheet: &[u8]) -> Result<(), String> {
         let rust = Rust::of(sheet);
         let verdict = Case::new(sheet, &rust, Call::Verdict)?;
         let queries = if verdict.number() == 0 { plan::some(random, sheet) } else { vec![plan::one(random)] };
         self.offer(verdict);
+        self.offer(Case::new(sheet, &rust, Call::StrictVerdict)?);
         for call in queries {
             let case = Case::new(sheet, &rust, call)?;
             if let Some(region) = case.region().filter(|_| call.by_words().is_by_words()) {
@@ -415,13 +487,22 @@ impl Case {
         }
     }
 
+    /// The sort of a range of bases, or of a strict verdict.
+    fn sort(&self) -> Option<u32> {
+        if let Some((words, range)) = self.range() {
+            return Some(ranges::sort(&words, range, self.check()));
+        }
+        let headers = Headers::decode(&self.sheet).filter(|_| self.call == Call::StrictVerdict)?;
+        Some(strict::sort(&headers, &self.answer.numbers))
+    }
+
     fn group(&self) -> Group {
         let found = match self.call {
             Call::Verdict | Call::StrictVerdict => 0,
             _ => self.check().min(6),
         };
         let faults = self.base().filter(|_| !self.is_large()).map(|(words, base)| Faults::of(&words, base));
-        let sort = self.range().filter(|_| !self.is_large()).map(|(words, range)| ranges::sort(&words, range, self.check()));
+        let sort = if self.is_large() { None } else { self.sort() };
         (self.code(), self.number(), found, faults, sort, self.is_large())
     }
 
@@ -429,6 +510,7 @@ impl Case {
     fn room(&self) -> usize {
         match (self.is_large(), self.number(), self.call) {
             (true, _, Call::BaseRange { .. }) => 0,
+            (_, _, Call::StrictVerdict) => usize::from(2 * self.sheet.len() <= SMALL),
             (true, 0 | 31, _) => 2,
             (true, _, _) => 0,
             (_, 0, Call::Verdict) => 24,
@@ -448,6 +530,7 @@ impl Case {
             (_, Call::RegionContains { .. }) => 5,
             (0, Call::Contains { .. }) => 12,
             (0, Call::BaseValid { .. } | Call::RegionBaseValid { .. } | Call::BaseRange { .. }) => usize::MAX,
+            (_, Call::StrictVerdict) => usize::MAX,
             (35..=37 | 50, _) => 6,
             _ if self.answer.numbers[1] == 0 => 4,
             _ => 2,

@@ -115,6 +115,9 @@ const COLUMNS: [&str; 18] = [
     "34, a region of 38 behind it",
 ];
 
+/// The columns that tell strict verdicts of one sort from others: which regions and bits, and which other contexts have the bit.
+const SORT: [usize; 10] = [0, 1, 4, 5, 6, 7, 8, 9, 16, 17];
+
 /// Which columns hold of a strict verdict that accepts.
 fn accepted(regions: &[Region], contexts: &Contexts) -> [bool; 2] {
     let several = || regions.iter().filter(|region| region.mask.count_ones() > 1);
@@ -175,6 +178,12 @@ fn columns(headers: &Headers, numbers: &[u64]) -> [bool; COLUMNS.len()] {
         _ => columns[16..].copy_from_slice(&without_context(&regions, &contexts)),
     }
     columns
+}
+
+/// The sort of a readable image with its strict verdict.
+pub fn sort(headers: &Headers, numbers: &[u64]) -> u32 {
+    let columns = columns(headers, numbers);
+    SORT.iter().fold(0, |bits, &column| 2 * bits + u32::from(columns[column]))
 }
 
 /// How often each was met.
