@@ -14,6 +14,7 @@ fn ask(c: Call, sheet: &[u8], lent: &mut [u8], which: u32) -> u64 {
         4 => igvm::igvm_region_base_valid(sheet, c.value),
         5 => igvm::igvm_region_contains(sheet, c.value),
         6 => igvm::igvm_relocation_base_range(sheet, c.mask, c.region, c.value, c.highest, which),
+        7 => igvm::igvm_strict_verdict(sheet, which),
         _ => igvm::igvm_contains(sheet, c.mask, c.region, c.value, which),
     }
 }
@@ -34,6 +35,7 @@ fn ask_all(c: Call, sheet: &[u8], words: &mut [u8], numbers: &mut [u8]) -> u64 {
             c.highest,
             numbers,
         ),
+        7 => igvm::igvm_strict_verdict_numbers(sheet, numbers),
         _ => igvm::igvm_contains_numbers(sheet, c.mask, c.region, c.value, numbers),
     }
 }

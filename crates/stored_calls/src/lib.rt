@@ -8,9 +8,9 @@ use libc::STDOUT_FILENO;
 
 // The head of a record.
 pub struct Call {
-    // 0 verdict, 1 relocations, 2 relocation_base_valid, 4 region_base_valid, 5 region_contains, 6 relocation_base_range, else contains
+    // 0 verdict, 1 relocations, 2 relocation_base_valid, 4 region_base_valid, 5 region_contains, 6 relocation_base_range, 7 strict_verdict, else contains
     pub code: u8,
-    // 0 document 01, 1 the Rust, 2 the Rust that a base is not valid and document 02 why, else document 02
+    // 0 document 01, 1 the Rust, 2 the Rust and document 02, else document 02
     pub answered: u8,
     pub mask: u32,
     pub region: u64,
@@ -78,6 +78,7 @@ fn write_call(c: Call) {
             write_region(b"relocation_base_range", c, b" lowest ");
             write_number(b" highest ", c.highest);
         }
+        7 => write(b"strict_verdict"),
         _ => write_region(b"contains", c, b" gpa "),
     }
 }
@@ -96,7 +97,7 @@ fn numbers(code: u8) -> u32
     ensures { λ r. ⌜ r ≤ 11 ⌝ }
 {
     match code {
-        0 => 7,
+        0 | 7 => 7,
         1 => 11,
         4 | 5 => 1,
         _ => 5,
