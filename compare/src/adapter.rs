@@ -113,11 +113,11 @@ impl<'a> Seen<'a> {
         self.answers(random, &sheet, &Rust::of_headers(Some(headers)))
     }
 
-    /// The verdict and two region lists, by the calls and by crate sapyullu.
+    /// The two verdicts and two region lists, by the calls and by crate sapyullu.
     fn answers(&mut self, random: &mut Random, sheet: &[u8], rust: &Rust) -> Result<(), String> {
         let text = |difference: Difference| shrink::text(&difference);
         let number = self.run.verdict(sheet, rust, random.next()).map_err(text)?;
-        host::same_verdict(sheet)?;
+        host::same_verdicts(sheet)?;
         if number != 0 {
             return Ok(());
         }
@@ -140,7 +140,7 @@ fn text(place: &str, what: &str, decoded: &[u8]) -> String {
     format!("DIFFERENCE in {place} by the adapter\n{what}\n  the headers are of the sheet of {} bytes: {digits}", decoded.len())
 }
 
-/// The adapter's sheet has the head, the rows and the verdict of the sheet that the headers were decoded from.
+/// The adapter's sheet has the head, the rows and the two verdicts of the sheet that the headers were decoded from.
 fn same_rows(decoded: &[u8], made: &[u8]) -> Result<(), String> {
     let (Some(mut expected), Some(image)) = (Image::parse(decoded), Image::parse(made)) else {
         return Err("the adapter's sheet has no head or no table".into());
@@ -153,9 +153,11 @@ fn same_rows(decoded: &[u8], made: &[u8]) -> Result<(), String> {
             hex(&made[..made.len().min(2000)])
         ));
     }
-    let (by_decoded, by_made) = (paper::verdict(decoded), paper::verdict(made));
-    if by_decoded != by_made {
-        return Err(format!("document 01 says {by_made:?} of the adapter's sheet, {by_decoded:?} of the other"));
+    for verdict in [paper::verdict, paper::strict_verdict] {
+        let (by_decoded, by_made) = (verdict(decoded), verdict(made));
+        if by_decoded != by_made {
+            return Err(format!("document 01 says {by_made:?} of the adapter's sheet, {by_decoded:?} of the other"));
+        }
     }
     Ok(())
 }
@@ -181,26 +183,30 @@ mod host {
     use crate::random::Random;
     use crate::{paper, plan, ranges};
     use oracle::{IgvmRelocatableRegion, Relocated};
-    use sapyullu::{BaseCheck, List, PageTableRegion, Place, Refusal};
+    use sapyullu::{BaseCheck, Counts, List, PageTableRegion, Place, Refusal};
 
-    /// The verdict is document 01's.
-    pub fn same_verdict(sheet: &[u8]) -> Result<(), String> {
-        let (numbers, by_paper) = (verdict(sheet)?, paper::verdict(sheet));
-        if numbers != by_paper {
-            return Err(format!("sapyullu::verdict says {numbers:?}; document 01 says {by_paper:?}"));
+    /// The verdict and the strict verdict are document 01's.
+    pub fn same_verdicts(sheet: &[u8]) -> Result<(), String> {
+        let verdict = ("verdict", sapyullu::verdict(sheet), paper::verdict(sheet));
+        let strict_verdict = ("strict_verdict", sapyullu::strict_verdict(sheet), paper::strict_verdict(sheet));
+        for (name, judged, by_paper) in [verdict, strict_verdict] {
+            let numbers = numbers(sheet, judged).map_err(|what| format!("sapyullu::{name} {what}"))?;
+            if numbers != by_paper {
+                return Err(format!("sapyullu::{name} says {numbers:?}; document 01 says {by_paper:?}"));
+            }
         }
         Ok(())
     }
 
-    /// The numbers of the verdict. A refusal's place is that of its row.
-    fn verdict(sheet: &[u8]) -> Result<[u64; 6], String> {
-        let refusal = match sapyullu::verdict(sheet) {
+    /// The numbers of a verdict. A refusal's place is that of its row.
+    fn numbers(sheet: &[u8], judged: Result<Counts, Refusal>) -> Result<[u64; 6], String> {
+        let refusal = match judged {
             Ok(counts) => return Ok([0, 0, 0, counts.platform_headers, counts.initialization_headers, counts.directive_headers]),
             Err(refusal) => refusal,
         };
         let row = refusal.row.unwrap_or(0);
         if refusal.place != place(sheet, row) {
-            return Err(format!("sapyullu::verdict refuses row {row} at {:?}", refusal.place));
+            return Err(format!("refuses row {row} at {:?}", refusal.place));
         }
         Ok([refusal.error.number(), row, refusal.detail, 0, 0, 0])
     }
@@ -282,7 +288,7 @@ mod host {
     use crate::random::Random;
     use oracle::Relocated;
 
-    pub fn same_verdict(_: &[u8]) -> Result<(), String> {
+    pub fn same_verdicts(_: &[u8]) -> Result<(), String> {
         Ok(())
     }
 
