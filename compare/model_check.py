@@ -1,5 +1,5 @@
 #!/usr/bin/env python3
-"""Holds the lines of `compare emit`, read from standard input, against tools/model.py: each a sheet in hexadecimal digits and its line."""
+"""Holds the lines of `compare emit`, read from standard input, against tools/model.py: each a sheet in hexadecimal digits, its line by the verdict and by the strict one."""
 
 import sys
 from pathlib import Path
@@ -9,9 +9,10 @@ import model
 
 count = 0
 for text in sys.stdin:
-    digits, _, line = text.rstrip("\n").partition(" ")
-    said = model.line(bytes.fromhex(digits))
-    if said != line:
-        sys.exit(f"DIFFERENCE: document 01 in Rust says {line}; tools/model.py says {said}\n  sheet: {digits}")
+    digits, _, lines = text.rstrip("\n").partition(" ")
+    for call, line in zip(("verdict", "strict_verdict"), lines.split("; "), strict=True):
+        said = model.line(bytes.fromhex(digits), call)
+        if said != line:
+            sys.exit(f"DIFFERENCE: {call}: document 01 in Rust says {line}; tools/model.py says {said}\n  sheet: {digits}")
     count += 1
-print(f"tools/model.py: {count} sheets agree with document 01 in Rust")
+print(f"tools/model.py: {count} sheets agree with document 01 in Rust, by the verdict and by the strict one")

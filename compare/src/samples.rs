@@ -33,12 +33,14 @@ pub fn replay(calls: &Calls, folder: &str) -> Result<(), String> {
     Ok(())
 }
 
-/// Random sheets in hexadecimal digits, each with its line, for a comparison outside this program; one large sheet for 500 others.
+/// Random sheets in hexadecimal digits, each with its line by the verdict and by the strict one, for a comparison outside this program; one large sheet for
+/// 500 others.
 pub fn emit(seed: u64, cases: u64) -> Result<(), String> {
     let sheets = (0..cases).map(|case| generate::sheet(&mut Random::new(seed, case)));
     let large = (0..cases / 500).map(|case| large::sheet(&mut Random::new(seed, case)));
     for sheet in sheets.chain(large) {
-        println!("{} {}", hex(&sheet), line(&paper::CALLS, Call::Verdict, &sheet));
+        let [verdict, strict] = [Call::Verdict, Call::StrictVerdict].map(|call| line(&paper::CALLS, call, &sheet));
+        println!("{} {verdict}; {strict}", hex(&sheet));
     }
     Ok(())
 }
