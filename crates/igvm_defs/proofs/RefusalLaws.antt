@@ -1,6 +1,6 @@
 -- Laws of faults and refusals: whether there is one, as an equation, and which one it is.
 use lib.Dec.{eqb·suc-zero}
-use Rattle.rows.{proofs.Kit.{_≡_, refl, ap, Bool, true, false, not, cond, _||_, Option, none, some, ℕ, suc, _+_, _<_, arith, ne-eqb}, specs.Below.{anyBelow, firstBelow}, proofs.BelowLaws.{any-below, none-any, first-any, first-at, first-says}}
+use Rattle.rows.{proofs.Kit.{_≡_, refl, sym, ap, _∙_, Bool, true, false, not, cond, _||_, _≢_, _↔_, Option, none, some, ℕ, zero, suc, _+_, _-_, _<_, arith, decLt, eqb, eqb-true, ne-eqb, not-false}, specs.Below.{anyBelow, firstBelow}, proofs.BelowLaws.{any-below, none-any, first-any, first-none, first-at, first-says}}
 use Rattle.igvm_defs.specs.{declared.Refusal.Refusal, declared.Fault.Fault, Refusals.{refusal, noRefusal, fault, noFault, refuse, orFault, Then, isFault, isRefusal, inRow, orElse, refusalAt, firstFault}}
 
 -- ---- whether there is a fault, a refusal
@@ -73,3 +73,88 @@ module _ (first n : ℕ) (f : ℕ → Fault) where
       go : (o : Option ℕ) → firstBelow n (λ j. isFault (f j)) ≡ o → isRefusal (refusalAt first f o) ≡ anyBelow n (λ j. isFault (f j))
       go none e = rw (first-any n (λ j. isFault (f j)) .0 e)
       go (some i) e = let (l, t, _) = first-says n (λ j. isFault (f j)) i e in rw (any-below n (λ j. isFault (f j)) i l t) t
+
+-- rows with the same faults
+pub faults-same : (first n : ℕ) (f g : ℕ → Fault) → ((i : ℕ) → i < n → f i ≡ g i) → firstFault first n f ≡ firstFault first n g
+unfolding firstFault firstBelow
+faults-same first n f g h = go (firstBelow n (λ i. isFault (f i))) refl ∙ ap (refusalAt first g) (tests n (λ i l. ap isFault (h i l)))
+  where
+    tests : (m : ℕ) → ((i : ℕ) → i < m → isFault (f i) ≡ isFault (g i)) → firstBelow m (λ i. isFault (f i)) ≡ firstBelow m (λ i. isFault (g i))
+    tests zero e = refl
+    tests (suc m) e = rw (tests m (λ i l. e i (omega arith)), e m (omega arith))
+
+    go : (o : Option ℕ) → firstBelow n (λ i. isFault (f i)) ≡ o → refusalAt first f o ≡ refusalAt first g o
+    go none e = refl
+    go (some i) e = rw (h i (first-says n (λ i. isFault (f i)) i e .0))
+
+-- rows in two parts
+pub faults-split : (first m n : ℕ) (f : ℕ → Fault) → firstFault first (m + n) f ≡ orElse (firstFault first m f) (firstFault (first + m) n (λ i. f (m + i)))
+unfolding firstFault orElse isRefusal isFault
+faults-split first m n f = go (firstBelow m p) refl
+  where
+    p : ℕ → Bool
+    p i = isFault (f i)
+
+    go : (o : Option ℕ) → firstBelow m p ≡ o
+        → refusalAt first f (firstBelow (m + n) p) ≡ orElse (refusalAt first f o) (refusalAt (first + m) (λ i. f (m + i)) (firstBelow n (λ i. p (m + i))))
+    go (some i) e = let (l, t, b) = first-says m p i e in rw (first-at (m + n) p i (omega arith) b t, t)
+    go none e = rest (firstBelow n (λ i. p (m + i))) refl
+      where
+        both : (k : ℕ) → ((i : ℕ) → m + i < k → p (m + i) ≡ false) → (j : ℕ) → j < k → p j ≡ false
+        both k h j l = at (decLt j m)
+          where
+            at : Dec (j < m) → p j ≡ false
+            at (yes z) = first-none m p .0 e j z
+            at (no z) = let g : j ≡ m + (j - m) = omega arith in rw g (h (j - m) (omega arith))
+
+        rest : (o : Option ℕ) → firstBelow n (λ i. p (m + i)) ≡ o → refusalAt first f (firstBelow (m + n) p) ≡ refusalAt (first + m) (λ i. f (m + i)) o
+        rest none d = rw (first-none (m + n) p .1 (both (m + n) (λ i l. first-none n (λ i. p (m + i)) .0 d i (omega arith))))
+        rest (some i) d =
+            let (l, t, b) = first-says n (λ i. p (m + i)) i d in
+            let z : first + (m + i) + 1 ≡ first + m + i + 1 = omega arith in
+            rw (first-at (m + n) p (m + i) (omega arith) (both (m + i) (λ j g. b j (omega arith))) t, z)
+
+-- ---- a fault by its number
+
+pub fault-zero : (f : Fault) → (isFault f ≡ false) ↔ (f .number ≡ 0)
+unfolding isFault
+fault-zero f = (λ e. eqb-true (f .number) 0 (not-false (eqb (f .number) 0) e), λ e. rw e)
+
+pub fault-number : (f : Fault) → f .number ≢ 0 → isFault f ≡ true
+unfolding isFault
+fault-number f h = rw (ne-eqb (f .number) 0 h)
+
+pub fault-row : (row : ℕ) (f : Fault) → isFault f ≡ true → inRow row f ≡ refusal (f .number) row (f .detail)
+unfolding inRow
+fault-row row f t = rw t
+
+-- ---- one refusal after another
+
+pub none-else : (r : Refusal) → orElse noRefusal r ≡ r
+unfolding orElse isRefusal
+none-else r = refl
+
+pub else-assoc : (a b c : Refusal) → orElse (orElse a b) c ≡ orElse a (orElse b c)
+unfolding orElse
+else-assoc a b c = go (isRefusal a) refl
+  where
+    go : (t : Bool) → isRefusal a ≡ t → orElse (cond t a b) c ≡ cond t a (orElse b c)
+    go true e = rw e
+    go false e = refl
+
+-- what comes later counts only where nothing was refused
+pub else-same : (a b c : Refusal) → (isRefusal a ≡ false → b ≡ c) → orElse a b ≡ orElse a c
+unfolding orElse
+else-same a b c h = go (isRefusal a) refl
+  where
+    go : (t : Bool) → isRefusal a ≡ t → cond t a b ≡ cond t a c
+    go true e = refl
+    go false e = h e
+
+-- two that exclude each other may change places
+pub else-swap : (a b c : Refusal) → (isRefusal a ≡ true → isRefusal b ≡ false) → orElse a (orElse b c) ≡ orElse b (orElse a c)
+else-swap a b c h = go (isRefusal a) refl
+  where
+    go : (t : Bool) → isRefusal a ≡ t → orElse a (orElse b c) ≡ orElse b (orElse a c)
+    go true e = orElse-first a (orElse b c) e ∙ sym (orElse-later b (orElse a c) (h e) ∙ orElse-first a c e)
+    go false e = orElse-later a (orElse b c) e ∙ ap (orElse b) (sym (orElse-later a c e))

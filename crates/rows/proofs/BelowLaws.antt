@@ -183,6 +183,10 @@ unfolding sumBelow
 count-none zero p h = refl
 count-none (suc n) p h = rw (count-none n p (λ i l. h i (omega arith)), h n (omega arith))
 
+-- a count is 0 exactly when none passes
+pub count-zero : (n : ℕ) (p : ℕ → Bool) → (countBelow n p ≡ 0) ↔ ((i : ℕ) → i < n → p i ≡ false)
+count-zero n p = (λ e i h. is-false (p i) (λ t. let c = count-lt i n p h t in omega arith), count-none n p)
+
 pub count-all : (n : ℕ) (p : ℕ → Bool) → ((i : ℕ) → i < n → p i ≡ true) → countBelow n p ≡ n
 unfolding sumBelow
 count-all zero p h = refl

@@ -78,3 +78,8 @@ cond-map f false x y = refl
 pub one-at-most : (b : Bool) → boolByte b ≤ 1
 one-at-most true = omega arith
 one-at-most false = omega arith
+
+-- and as what it adds to a count
+pub byte-count : (b : Bool) → boolByte b ≡ cond b 1 0
+byte-count true = refl
+byte-count false = refl

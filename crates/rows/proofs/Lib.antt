@@ -1,5 +1,6 @@
 pub mod Bools
 pub mod BelowLaws
+pub mod SameLaws
 pub mod PairedLaws
 pub mod Kit
 pub mod Walks

@@ -1,3 +1,4 @@
 pub mod Below
 pub mod Rows
+pub mod Same
 pub mod Paired

@@ -1,9 +1,10 @@
 -- A list of rows: how many there are, and the row at each index.
-use mathlib.Core.Bool.{Bool, true, false}
+use mathlib.Core.Bool.{Bool, true, false, cond}
 use mathlib.Core.Logic.{_≢_}
 use mathlib.Core.Option.{Option, none, some}
 use mathlib.Core.Path.{_≡_}
-use Prim.Native.Nat.{ℕ, _<_}
+use Prim.Native.Nat.{ℕ, suc, _-_, _<_}
+use lib.Dec.{eqb, ltb}
 use Rattle.rows.specs.Below.{anyBelow, lastBelow, countBelow, nthBelow}
 
 pub record Rows (H : Type 0) : Type 0 where
@@ -27,6 +28,14 @@ module _ {H : Type 0} where
   -- the rows before index i
   abbrev pub before : ℕ → Rows H → Rows H
   before i xs = record { count = i; row = xs .row }
+
+  -- the rows, and one row more behind them
+  abbrev pub more : Rows H → H → Rows H
+  more xs x = record { count = suc (xs .count); row = λ i. cond (eqb i (xs .count)) x (xs .row i) }
+
+  -- the rows without row m
+  abbrev pub without : ℕ → Rows H → Rows H
+  without m xs = record { count = xs .count - 1; row = λ i. cond (ltb i m) (xs .row i) (xs .row (suc i)) }
 
   -- how many rows pass
   abbrev pub countOf : (H → Bool) → Rows H → ℕ
