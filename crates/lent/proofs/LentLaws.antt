@@ -1,9 +1,9 @@
 -- Laws of lent bytes. A store past the end changes nothing, so only laws that read a byte ask for room.
-use native.Mathlib.Nat.{mul-comm, mod-eq-of-lt}
+use native.Mathlib.Nat.{mul-comm, mod-eq-of-lt, zero-div}
 use lib.Arith.{mod-mul}
 use Rattle.rows.{proofs.Kit.{ℕ, zero, suc, _+_, _-_, _*_, _/_, _%_, _^_, _≤_, _<_, add-zero, zero-add, not-suc-le-zero, le-of-suc-le-suc, pow-succ', decLt, arith, _≡_, refl, sym, ap, _∙_, Bool, true, cond, _&&_, and-false, List, [], _∷_, eqb, leb, ltb, length, getD, set, List·getD-eq-default, eqb-true, leb-true, ltb-true, eq-eqb, ne-eqb, le-leb, lt-leb, lt-ltb, le-ltb}, specs.Below.sumBelow, proofs.Bools.{same-test, and-parts, cond-same}, proofs.BelowLaws.sum-cong}
 use Rattle.le.specs.Le.{byteAt, leAt, byteOf}
-use Rattle.lent.specs.Lent.{eachFrom, each, bytesPut, wordPut, rowPut, rowsPut, numbersPut}
+use Rattle.lent.specs.Lent.{eachFrom, each, bytesPut, wordPut, wordsPut, rowPut, rowsPut, numbersPut}
 
 -- ---- each byte from place i on
 
@@ -41,6 +41,13 @@ unfolding eachFrom
 from-at i f [] j l = absurd (not-suc-le-zero l)
 from-at i f (x ∷ b) zero l = rw (add-zero i)
 from-at i f (x ∷ b) (suc j) l = let z : suc i + j ≡ i + suc j = omega arith in rw (← z) (from-at (suc i) f b j (le-of-suc-le-suc l))
+
+-- a byte that f leaves as it is
+from-keep : (i : ℕ) (f : ℕ → ℕ → ℕ) (b : List ℕ) (j : ℕ) → ((x : ℕ) → f (i + j) x ≡ x) → getD (eachFrom i f b) j 0 ≡ getD b j 0
+unfolding eachFrom
+from-keep i f [] j h = refl
+from-keep i f (x ∷ b) zero h = rw add-zero at (h x)
+from-keep i f (x ∷ b) (suc j) h = from-keep (suc i) f b j (let z : i + suc j ≡ suc i + j = omega arith in rw z at h)
 
 -- a store, past the end too
 each-set : (k v : ℕ) (b : List ℕ) → set b k v ≡ each (λ j x. cond (eqb j k) v x) b
@@ -130,6 +137,56 @@ word-joins : (a w v : ℕ) (f : ℕ → ℕ) (b : List ℕ) → a ≤ 8 * w → 
 unfolding wordPut
 word-joins a w v f b l h = put-join a (8 * w) (8 * w + 8) f _ b l (omega arith) h
 
+-- ---- a word for each index
+
+pub words-length : (first n : ℕ) (word : ℕ → ℕ) (b : List ℕ) → length (wordsPut first n word b) ≡ length b
+unfolding wordsPut
+words-length first n word b = put-length _ _ _ b
+
+pub words-none : (first : ℕ) (word : ℕ → ℕ) (b : List ℕ) → wordsPut first 0 word b ≡ b
+unfolding wordsPut
+words-none first word b = rw add-zero (put-none (8 * first) _ b)
+
+-- one word more: a turn of a loop
+pub words-more : (first n v : ℕ) (word : ℕ → ℕ) (b : List ℕ) → v ≡ word (first + n) → wordPut (first + n) v (wordsPut first n word b) ≡ wordsPut first (n + 1) word b
+unfolding wordsPut
+words-more first n v word b e =
+    let z : 8 * (first + (n + 1)) ≡ 8 * (first + n) + 8 = omega arith in
+    rw z
+    (word-joins (8 * first) (first + n) v (λ j. byteOf (j % 8) (word (j / 8))) b (omega arith)
+    (λ j h g.
+    let p : j - 8 * (first + n) ≡ j % 8 = omega arith in
+    let q : j / 8 ≡ first + n = omega arith in
+    rw (p, q, e)))
+
+-- words behind those that were put
+pub words-join : (first m n : ℕ) (word : ℕ → ℕ) (b : List ℕ) → wordsPut (first + m) n word (wordsPut first m word b) ≡ wordsPut first (m + n) word b
+unfolding wordsPut
+words-join first m n word b =
+    let z : first + m + n ≡ first + (m + n) = omega arith in
+    rw z (put-join (8 * first) (8 * (first + m)) (8 * (first + (m + n))) _ _ b (omega arith) (omega arith) (λ j l h. refl))
+
+pub words-same : (first n : ℕ) (word other : ℕ → ℕ) (b : List ℕ) → ((k : ℕ) → first ≤ k → k < first + n → word k ≡ other k) → wordsPut first n word b ≡ wordsPut first n other b
+unfolding wordsPut
+words-same first n word other b h = put-same _ _ _ _ b (λ j l g. rw (h (j / 8) (omega arith) (omega arith)))
+
+-- bytes behind the words keep their contents
+pub words-keep : (first n : ℕ) (word : ℕ → ℕ) (b : List ℕ) (j : ℕ) → 8 * (first + n) ≤ j → getD (wordsPut first n word b) j 0 ≡ getD b j 0
+unfolding wordsPut bytesPut
+words-keep first n word b j h = from-keep 0 _ b j (λ x. rw (zero-add, le-ltb j (8 * (first + n)) h, and-false (leb (8 * first) j)))
+
+byte-zero : (k : ℕ) → byteOf k 0 ≡ 0
+unfolding byteOf
+byte-zero k = rw (zero-div (256 ^ k))
+
+-- the bytes with 0 at the first `end` places: a turn of the loop of `clear_words`, and its end
+pub clear-more : (i : ℕ) (b : List ℕ) → set (bytesPut 0 i (λ _. 0) b) i 0 ≡ bytesPut 0 (i + 1) (λ _. 0) b
+clear-more i b = byte-more i (λ _. 0) b
+
+pub clear-all : (n : ℕ) (b : List ℕ) → bytesPut 0 (8 * n) (λ _. 0) b ≡ wordsPut 0 n (λ _. 0) b
+unfolding wordsPut
+clear-all n b = rw zero-add (put-same 0 (8 * n) _ _ b (λ j l h. sym (byte-zero (j % 8))))
+
 -- ---- numbers
 
 -- the bytes with the first k numbers
@@ -174,17 +231,17 @@ unfoldable pub rowByte : List ℕ → ℕ → ℕ
 rowByte words j = byteOf (j % 8) (getD words (j / 8 % 8) 0)
 
 -- the bytes with the first k words of row n
-unfoldable pub wordsPut : ℕ → ℕ → List ℕ → List ℕ → List ℕ
-wordsPut k n words b = bytesPut (64 * n) (64 * n + 8 * k) (rowByte words) b
+unfoldable pub leadPut : ℕ → ℕ → List ℕ → List ℕ → List ℕ
+leadPut k n words b = bytesPut (64 * n) (64 * n + 8 * k) (rowByte words) b
 
-pub words-none : (n : ℕ) (words b : List ℕ) → wordsPut 0 n words b ≡ b
-unfolding wordsPut
-words-none n words b = let z : 64 * n + 8 * 0 ≡ 64 * n = omega arith in rw z (put-none (64 * n) (rowByte words) b)
+pub lead-none : (n : ℕ) (words b : List ℕ) → leadPut 0 n words b ≡ b
+unfolding leadPut
+lead-none n words b = let z : 64 * n + 8 * 0 ≡ 64 * n = omega arith in rw z (put-none (64 * n) (rowByte words) b)
 
 -- one word more: a turn of the loop of `put_words`
-pub words-more : (k n : ℕ) (words b : List ℕ) → k < 8 → wordPut (8 * n + k) (getD words k 0) (wordsPut k n words b) ≡ wordsPut (k + 1) n words b
-unfolding wordsPut rowByte
-words-more k n words b l =
+pub lead-more : (k n : ℕ) (words b : List ℕ) → k < 8 → wordPut (8 * n + k) (getD words k 0) (leadPut k n words b) ≡ leadPut (k + 1) n words b
+unfolding leadPut rowByte
+lead-more k n words b l =
     let w : ℕ = 8 * n + k in
     let y : 64 * n + 8 * k ≡ 8 * w = omega arith in
     let z : 64 * n + 8 * (k + 1) ≡ 8 * w + 8 = omega arith in
@@ -195,9 +252,9 @@ words-more k n words b l =
     let q : k ≡ j / 8 % 8 = omega arith in
     rw (p, q)))
 
-pub words-all : (n : ℕ) (words b : List ℕ) → wordsPut 8 n words b ≡ rowPut n words b
-unfolding wordsPut rowPut rowByte
-words-all n words b = refl
+pub lead-all : (n : ℕ) (words b : List ℕ) → leadPut 8 n words b ≡ rowPut n words b
+unfolding leadPut rowPut rowByte
+lead-all n words b = refl
 
 -- ---- rows
 
@@ -260,6 +317,18 @@ module _ (count : ℕ) (row : ℕ → List ℕ) (b : List ℕ) (room : 64 * coun
   -- word k of row n is item k of the row
   pub word-is : (n k : ℕ) → n < count → k < 8 → getD (row n) k 0 < 18446744073709551616 → leAt 8 (rowsPut count row b) (64 * n + 8 * k) ≡ getD (row n) k 0
   word-is n k l h g = word-said n k l h ∙ mod-eq-of-lt g
+
+-- a word that was put for an index
+pub put-word-is : (first n k : ℕ) (word : ℕ → ℕ) (b : List ℕ) → 8 * (first + n) ≤ length b → k < n → word (first + k) < 18446744073709551616
+    → leAt 8 (wordsPut first n word b) (8 * (first + k)) ≡ word (first + k)
+unfolding leAt wordsPut
+put-word-is first n k word b room l h =
+    sum-cong 8 _ _ (λ m g.
+    let j : ℕ = 8 * (first + k) + m in
+    let y : j / 8 ≡ first + k = omega arith in
+    let z : j % 8 ≡ m = omega arith in
+    ap (λ x. 256 ^ m * x) (rw (put-at (8 * first) (8 * (first + n)) (λ j. byteOf (j % 8) (word (j / 8))) b j (omega arith) (omega arith) (omega arith), y, z)))
+    ∙ bytes-say 8 (word (first + k)) ∙ mod-eq-of-lt h
 
 -- equal rows, under whatever numbers, are the same words
 pub same-words : (count count2 : ℕ) (row row2 : ℕ → List ℕ) (b b2 : List ℕ) → 64 * count ≤ length b → 64 * count2 ≤ length b2

@@ -22,6 +22,10 @@ bytesPut first end f b = each (λ j x. cond (leb first j && ltb j end) (f j) x) 
 unfoldable pub wordPut : ℕ → ℕ → List ℕ → List ℕ
 wordPut w v b = bytesPut (8 * w) (8 * w + 8) (λ j. byteOf (j - 8 * w) v) b
 
+-- with `word k` as word k, for the n words from word `first` on. Every other byte keeps its contents
+unfoldable pub wordsPut : ℕ → ℕ → (ℕ → ℕ) → List ℕ → List ℕ
+wordsPut first n word b = bytesPut (8 * first) (8 * (first + n)) (λ j. byteOf (j % 8) (word (j / 8))) b
+
 -- with eight words as row n
 unfoldable pub rowPut : ℕ → List ℕ → List ℕ → List ℕ
 rowPut n words b = bytesPut (64 * n) (64 * n + 64) (λ j. byteOf (j % 8) (getD words (j / 8 % 8) 0)) b

@@ -3,7 +3,7 @@ ghost use mathlib.Core.Path.{_≡_};
 ghost use Prim.Native.Nat.{_+_, _*_, _≤_};
 ghost use lib.ListN.{length};
 ghost use Rattle.le.specs.Le.{byteAt};
-ghost use Rattle.lent.specs.Lent.{bytesPut, wordPut, rowPut, numbersPut};
+ghost use Rattle.lent.specs.Lent.{bytesPut, wordPut, wordsPut, rowPut, numbersPut};
 
 // v as word w. It is compiled to one store.
 pub fn put_word(b: &mut [u8], w: usize, v: u64)
@@ -19,6 +19,19 @@ pub fn put_word(b: &mut [u8], w: usize, v: u64)
     b[at + 5] = (v / 1099511627776 % 256) as u8;
     b[at + 6] = (v / 281474976710656 % 256) as u8;
     b[at + 7] = (v / 72057594037927936 % 256) as u8;
+}
+
+// 0 as each of the first n words. It is compiled to a fill of 8 * n bytes.
+pub fn clear_words(b: &mut [u8], n: usize)
+    requires { ⌜ 8 * n ≤ length (now b) ⌝ }
+    ensures { λ _. ⌜ now (b .exit) ≡ wordsPut 0 n (λ _. 0) (now (b .entry)) ⌝ }
+{
+    let end = 8 * n;
+    let mut i = 0;
+    while i < end {
+        b[i] = 0;
+        i += 1;
+    }
 }
 
 // Eight words as row n.
