@@ -8,5 +8,13 @@ pub mod QueryLaws
 pub mod Order
 pub mod SoundLaws
 pub mod StrictLaws
+pub mod SameRules
+pub mod KeptLaws
+pub mod ReportLaws
+pub mod SkippedLaws
+pub mod ToldLaws
+pub mod NumberLaws
+pub mod DroppedLaws
 pub mod OrderExamples
+pub mod ReportExamples
 pub mod ViewExamples

@@ -10,3 +10,5 @@ pub mod Accepted
 pub mod Reordered
 pub mod Sound
 pub mod Strict
+pub mod Kept
+pub mod Report
