@@ -1,4 +1,6 @@
 pub mod AnswerLaws
 pub mod StrictLaws
+pub mod ReportLaws
 pub mod BaseLaws
 pub mod BaseRangeLaws
+pub mod NumberLaws

@@ -1,5 +1,6 @@
 pub mod Verdict
 pub mod Strict
+pub mod Report
 pub mod Relocations
 pub mod Numbers
 pub mod Region

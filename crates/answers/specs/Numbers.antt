@@ -4,6 +4,7 @@ use mathlib.Core.Bool.{cond}
 use mathlib.Core.List.{List, [], _∷_}
 use lib.ListN.{getD}
 use Rattle.answers.specs.declared.Verdict.{Verdict}
+use Rattle.answers.specs.declared.Report.{Report}
 use Rattle.answers.specs.declared.Relocations.{Relocations}
 use Rattle.answers.specs.declared.Answered.{Answered}
 use Rattle.answers.specs.declared.Checked.{Checked}
@@ -21,6 +22,18 @@ verdictNumbers v =
     ∷ v .platforms
     ∷ v .initializations
     ∷ v .directives
+    ∷ []
+
+-- 0 number, 1 row, 2 detail, 3 15 applies (1 or 0), 4 34 applies (1 or 0), 5 rows, 6 faulty rows
+abbrev pub reportNumbers : Report → List ℕ
+reportNumbers a =
+    a .refusal .number
+    ∷ a .refusal .row
+    ∷ a .refusal .detail
+    ∷ cond (a .«no_platform») 1 0
+    ∷ cond (a .«no_context») 1 0
+    ∷ a .rows
+    ∷ a .faulty
     ∷ []
 
 -- 0 number, 1 row, 2 detail, 3 count, 4 page table (1 or 0), 5 gpa, 6 size, 7 used size, 8 VP index, 9 VTL

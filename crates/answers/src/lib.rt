@@ -1,4 +1,4 @@
-// What each call answers of any byte string: the verdict, the relocation query, the base check and the address check. These are definitions alone,
+// What each call answers of any byte string: the verdict, the report, the relocation query, the base check and the address check. These are definitions alone,
 // in specs/, and what a reader must believe. Here are the structs of the answers.
 use igvm_defs::Refusal;
 use rules::PageTableRegion;
@@ -29,4 +29,13 @@ pub struct Answered {
 pub struct Checked {
     pub refusal: Refusal,
     pub holds: bool,
+}
+
+// Whether 15 and 34 are told, how many rows the sheet has, and how many of them are faulty; 0 or no in all of these where the call is refused.
+pub struct Report {
+    pub refusal: Refusal,
+    pub no_platform: bool,
+    pub no_context: bool,
+    pub rows: u64,
+    pub faulty: u64,
 }

@@ -1,2 +1,3 @@
 pub mod Readable
 pub mod ReadLaws
+pub mod NumberLaws
