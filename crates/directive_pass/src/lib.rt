@@ -1,22 +1,27 @@
 // The pass over the directive rows of a readable sheet, from the first row on that is not known to be in order: refusals 21, 22, 24 and 30 to 34.
 ghost use mathlib.Core.Path.{_≡_};
 ghost use mathlib.Core.Bool.{false};
-ghost use Prim.Native.Nat.{_+_, _-_, _<_, _≤_};
+ghost use Prim.Native.Nat.{ℕ, _+_, _-_, _<_, _≤_};
 ghost use Rattle.rows.specs.Below.{anyBelow};
+ghost use Rattle.igvm_defs.specs.Kinds.{kindOf, directiveList};
 ghost use Rattle.igvm_defs.specs.Refusals.{isFault};
 ghost use Rattle.sheet.specs.Head.{initializationRows, limits, headOf, firstDirective, rowCount};
 ghost use Rattle.sheet.specs.Read.{Readable};
-ghost use Rattle.sheet.specs.Walk.{cursorAt};
+ghost use Rattle.sheet.specs.Table.{rowKind, bodyOf};
+ghost use Rattle.sheet.specs.Walk.{cursorAt, AtRow};
+ghost use Rattle.directive_header.specs.declared.IgvmDirectiveHeader.{IgvmDirectiveHeader};
+ghost use Rattle.directive_header.specs.Directives.{directiveOf};
 ghost use Rattle.sheet_headers.specs.Headers.{sheetHeaders};
 ghost use Rattle.initialization_header.specs.declared.IgvmInitializationHeader.{IgvmInitializationHeader};
 ghost use Rattle.rows.specs.Rows.{Rows, any, before};
 ghost use Rattle.rules.specs.Directives.{allocates, inserts, badArea, insideTable};
 ghost use Rattle.rules.specs.Verdict.{directiveFaults};
 ghost use Rattle.initialization_check.specs.Record.{anyRegion, HoldsRegions};
-ghost use Rattle.directive_check.specs.Record.{HoldsContexts, lacksContext};
+ghost use Rattle.directive_check.specs.Record.{HoldsContexts, lacksContext, DirectiveStepped};
 ghost use Rattle.clashes.specs.Clashes.{HoldsTables};
 ghost use Rattle.directive_pass.specs.Passed.{DirectivesPassed};
 use directive_header::IgvmDirectiveHeader;
+use igvm_defs::Arch;
 use igvm_defs::Fault;
 use igvm_defs::Refusal;
 use initialization_check::RelocRegions;
@@ -77,7 +82,7 @@ fn bad_area(s: &[u8], head: SheetHead, c: Cursor, i: usize) -> bool
 }
 
 // 34: some region has a VP index other than 0, or no context.
-fn no_matching_vp_context(regions: RelocRegions, contexts: [u32; 3]) -> bool
+pub fn no_matching_vp_context(regions: RelocRegions, contexts: [u32; 3]) -> bool
     requires { ⌜ regions .count ≤ initializationRows ⌝ }
     ensures { λ r. ⌜ r ≡ anyRegion (lacksContext contexts) regions ⌝ }
 {
@@ -125,6 +130,44 @@ fn inside_table<'a>(
     }
 }
 
+// One row: its fault, the contexts' masks with its context, and the row after it. The rows before it tell whether its area is bad. Verdict and report share it,
+// so that what it calls has one caller.
+pub struct RowPass {
+    pub fault: Fault,
+    pub contexts: [u32; 3],
+    pub next: Cursor,
+}
+
+pub fn validate_row<'a>(
+    s: &'a [u8],
+    c: Cursor,
+    arch: Arch,
+    masks: &'a [u32; SheetHead::INITIALIZATION_ROWS],
+    gpas: &'a [u64; SheetHead::INITIALIZATION_ROWS],
+    sizes: &'a [u64; SheetHead::INITIALIZATION_ROWS],
+    tables: &'a [bool; SheetHead::INITIALIZATION_ROWS],
+    held: usize,
+    contexts: [u32; 3],
+    bad: bool,
+) -> RowPass
+    requires { ⌜ AtRow (now s) c × (kindOf (rowKind (now s) (c .row)) .list ≡ directiveList) × (held ≤ initializationRows) ⌝ }
+    ensures { λ r. ⌜ r .next ≡ cursorAt (now (s .entry)) (c .row + 1) ⌝ }
+    ensures { λ r. ⌜ ((is : Rows IgvmInitializationHeader) (xs : Rows IgvmDirectiveHeader) (i : ℕ) → directiveOf (rowKind (now (s .entry)) (c .row)) (bodyOf (now (s .entry)) (c .row)) ≡ xs .row i → bad ≡ badArea (before i xs) (xs .row i) → HoldsTables (now (masks .entry)) (now (gpas .entry)) (now (sizes .entry)) (now (tables .entry)) held is → HoldsContexts contexts (before i xs) → DirectiveStepped arch is xs i (r .fault) (r .contexts)) ⌝ }
+{
+    let row = sheet_headers::directive_at(s, c);
+    let h = row.header;
+    let next = row.next;
+    let inside = inside_table(masks, gpas, sizes, tables, held, h);
+    let step = directive_check::step(contexts, arch, bad, inside, h);
+    let fault = step.fault;
+    let after = step.contexts;
+    RowPass {
+        fault,
+        contexts: after,
+        next,
+    }
+}
+
 // The refusal, and the contexts' masks, which hold the contexts of all rows where there is no refusal.
 pub struct DirectivesPass {
     pub refusal: Refusal,
@@ -152,19 +195,20 @@ pub fn validate_directive_headers(
     let mut i = from.row - first;
     while i < n {
         let bad = bad_area(s, head, c, i);
-        let row = sheet_headers::directive_at(s, c);
-        let h = row.header;
-        let inside = inside_table(
+        let row = validate_row(
+            s,
+            c,
+            arch,
             &regions.mask,
             &regions.gpa,
             &regions.size,
             &regions.page_table,
             held,
-            h,
+            contexts,
+            bad,
         );
-        let step = directive_check::step(contexts, arch, bad, inside, h);
-        let fault = step.fault;
-        let next = step.contexts;
+        let fault = row.fault;
+        let next = row.contexts;
         contexts = next;
         if fault.is_fault() {
             return DirectivesPass {

@@ -1,5 +1,5 @@
 -- The record of regions answers for the rows that it holds.
-use Rattle.rows.{proofs.Kit.{_≡_, refl, sym, ap, ap₂, _∙_, Bool, true, false, cond, _||_, or-false, List, none, some, ℕ, _+_, _<_, _≤_, add-zero, arith, ltb, length, set, length-set, getD-set-same, getD-set-other, ltb-true, ltb-false}, specs.Below.{anyBelow, sumBelow, countBelow}, specs.Rows.{Rows, before}, proofs.BelowLaws.{any-more, any-same-tests, count-more, count-same-tests}}
+use Rattle.rows.{proofs.Kit.{_≡_, refl, sym, ap, ap₂, _∙_, Bool, true, false, cond, _||_, or-false, List, none, some, ℕ, _+_, _<_, _≤_, add-zero, arith, ltb, length, set, length-set, getD-set-same, getD-set-other, ltb-true, ltb-false}, specs.Below.{anyBelow, sumBelow, countBelow}, specs.Rows.{Rows, before}, specs.Same.SameRows, proofs.SameLaws.any-rows, proofs.BelowLaws.{any-more, any-same-tests, count-more, count-same-tests}}
 use Rattle.initialization_header.specs.declared.IgvmInitializationHeader.{IgvmInitializationHeader}
 use Rattle.rules.{specs.declared.Region.Region, specs.Regions.{regionOf, regionPasses, tablesShare, overlap}}
 use Rattle.initialization_check.specs.{declared.RelocRegions.RelocRegions, Record.{entry, anyRegion, HoldsRegions, RegionOfRow, HoldsRows, HoldsClashes, stored}}
@@ -87,6 +87,10 @@ module _ (r : RelocRegions) (new : Region) (room : Room r) where
   holds-stored xs i true held e = holds-pushed r xs i new (stored r true new) held e stored-pushed
   holds-stored xs i false held e = holds-kept r xs i (stored r false new) held e (omega arith) (λ p. rw add-zero (same-before false p))
 
+  -- a region that is stored and not counted leaves no trace
+  pub holds-skipped : (xs : Rows IgvmInitializationHeader) → HoldsRegions r xs → HoldsRegions (stored r false new) xs
+  holds-skipped xs held = record { count = let l = held .count in omega arith; same = λ p. rw add-zero (same-before false p) ∙ held .same p }
+
   -- ---- the rows of the regions
 
   count-before : (found : Bool) (p : Region → Bool) → countBelow (r .count) (λ e. p (entry (stored r found new) e)) ≡ countBelow (r .count) (λ e. p (entry r e))
@@ -146,6 +150,10 @@ module _ (r : RelocRegions) (new : Region) (room : Room r) where
           each = λ e h. each-before false e (omega arith);
           counts = λ p. rw (add-zero, count-before false p, held .counts p, count-more i (λ j. regionPasses p (xs .row j)), f, add-zero);
         }
+
+-- lists with the same rows have the same regions
+pub holds-same : (r : RelocRegions) {xs ys : Rows IgvmInitializationHeader} → SameRows xs ys → HoldsRegions r xs → HoldsRegions r ys
+holds-same r S held = record { count = let e = S .count in let l = held .count in omega arith; same = λ p. held .same p ∙ any-rows S (regionPasses p) }
 
 -- the record's arrays tell what clashes with a region
 pub holds-clashes : (r : RelocRegions) (xs : Rows IgvmInitializationHeader) → HoldsRegions r xs → HoldsClashes (r .mask) (r .gpa) (r .size) (r .«page_table») (r .count) xs

@@ -11,19 +11,14 @@ Inv-loop s head contexts₀ regions first n arch held c₀ i₀ contexts c i = D
 abbrev μ-loop : tie.MeasureT-loop
 μ-loop s head contexts₀ regions first n arch held c₀ i₀ contexts c i = n - i
 
--- a turn's step tells the row's fault, and the masks with the row's context
-stepped : (c : tie.After-step Inv-loop μ-loop)
-    → let f = sheetHeaders (now (c .before .before .before .before .before .before .before .before .before .before .before .before .before .before .before .before .before .before .args .s)) in
-    DirectiveStepped (f .arch) (f .initializations) (f .directives) (c .before .before .before .before .before .before .before .before .before .before .loop .i) (c .step .result .fault) (c .step .result .contexts)
+-- what a turn says of its row: its fault, and the masks with its context
+stepped : (c : tie.After-validate-row Inv-loop μ-loop)
+    → let f = sheetHeaders (now (c .before .before .before .before .before .before .before .before .before .before .before .before .before .before .before .before .args .s)) in
+    DirectiveStepped (f .arch) (f .initializations) (f .directives) (c .before .before .before .before .before .before .before .before .loop .i) (c .validate-row .result .fault) (c .validate-row .result .contexts)
 stepped c =
-    let l = c .before .before .before .before .before .before .before .before .before .before .loop in
-    let f = sheetHeaders (now (c .before .before .before .before .before .before .before .before .before .before .before .before .before .before .before .before .before .before .args .s)) in
-    let r = l .inv in
-    let g = c .before .before .before .before .before .before .before .directive-at in
-    let h : g .result .header ≡ f .directives .row (l .i) = rw (g .ensures .0) (reached-header r) in
-    let bad = rw (← h) at (c .before .before .before .before .before .before .before .before .bad-area .ensures) in
+    let f = sheetHeaders (now (c .before .before .before .before .before .before .before .before .before .before .before .before .before .before .before .before .args .s)) in let r = c .before .before .before .before .before .before .before .before .loop .inv in
     rw (← r .arch)
-    (c .step .ensures (f .initializations) (f .directives) (l .i) h bad (c .before .inside-table .ensures (f .initializations) (holds-tables _ (f .initializations) (r .regions))) (r .contexts))
+    (c .validate-row .ensures .1 (f .initializations) (f .directives) (c .before .before .before .before .before .before .before .before .loop .i) (reached-header r) (c .before .before .before .before .before .before .bad-area .ensures) (holds-tables _ (f .initializations) (r .regions)) (r .contexts))
 
 sub-i : tie.Need-sub-i Inv-loop μ-loop
 sub-i c =
@@ -59,30 +54,26 @@ few : (c : tie.In-loop Inv-loop μ-loop) → c .before .before .before .before .
 few c = let b = directive-small (c .before .loop .inv) in let l = c .loop-test .taken in omega arith
 
 add-in-row : tie.Need-add-in-row Inv-loop μ-loop
-add-in-row c = let l = few (c .before .before .before .before .before .before .before .before .before .before .before .before .before) in omega arith
+add-in-row c = let l = few (c .before .before .before .before .before .before .before .before .before .before .before) in omega arith
 
 add-in-row-2 : tie.Need-add-in-row-2 Inv-loop μ-loop
-add-in-row-2 c = let l = few (c .before .before .before .before .before .before .before .before .before .before .before .before .before) in omega arith
+add-in-row-2 c = let l = few (c .before .before .before .before .before .before .before .before .before .before .before) in omega arith
 
 returns : tie.Need-returns Inv-loop μ-loop
 returns c =
-    let d = c .before .before .before .before .before in
-    let t = c .before .before .before .before .before .before .before .before .before .before .before .before .before .before in
     let e = sym (c .before .before .is-fault .ensures) ∙ c .before .if1 .taken in
-    rw (c .in-row .ensures) (directives-stop (t .before .loop .inv) _ _ (t .loop-test .taken) (stepped d) e)
+    rw (c .in-row .ensures) (directives-stop (c .before .before .before .before .before .before .before .before .before .before .before .before .before .loop .inv) _ _ (c .before .before .before .before .before .before .before .before .before .before .before .before .loop-test .taken) (stepped (c .before .before .before .before .before)) e)
 
 add-i : tie.Need-add-i Inv-loop μ-loop
-add-i c = let l = few (c .before .before .before .before .before .before .before .before .before .before .before .before .before .before) in omega arith
+add-i c = let l = few (c .before .before .before .before .before .before .before .before .before .before .before .before) in omega arith
 
 loop-less : tie.Need-loop-less Inv-loop μ-loop
-loop-less c = let l = c .before .before .before .before .before .before .before .before .before .before .before .before .before .before .loop-test .taken in omega arith
+loop-less c = let l = c .before .before .before .before .before .before .before .before .before .before .before .before .loop-test .taken in omega arith
 
 loop-again : tie.Need-loop-again Inv-loop μ-loop
 loop-again c =
-    let d = c .before .before .before .before .before in
-    let t = c .before .before .before .before .before .before .before .before .before .before .before .before .before .before in
     let e = sym (c .before .before .is-fault .ensures) ∙ c .before .if1 .left in
-    directive-next (t .before .loop .inv) _ _ _ (t .loop-test .taken) (stepped d) e (c .before .before .before .before .before .before .before .before .before .before .before .before .directive-at .ensures .1)
+    directive-next (c .before .before .before .before .before .before .before .before .before .before .before .before .before .loop .inv) _ _ _ (c .before .before .before .before .before .before .before .before .before .before .before .before .loop-test .taken) (stepped (c .before .before .before .before .before)) e (c .before .before .before .before .before .validate-row .ensures .0)
 
 returns-2 : tie.Need-returns-2 Inv-loop μ-loop
 returns-2 c =
@@ -94,7 +85,6 @@ pub validate-directive-headers-spec : {M : Type 1} → statement M
 validate-directive-headers-spec =
     tie.close (tie.spec Inv-loop μ-loop (λ c. search needs) (λ c. search needs) (λ c. search needs) (λ c. search needs)
     (λ c κs. search needs) (λ c κs. search needs) sub-i loop-holds bad-area-requires
-    (λ c κs. directive-known (c .before .before .loop .inv) (c .before .loop-test .taken))
-    (λ c κs. directive-room (c .before .before .before .before .before .before .before .before .loop .inv)) (λ c κs. search needs)
+    (λ c κs. let (at, list) = directive-known (c .before .before .before .before .before .before .before .loop .inv) (c .before .before .before .before .before .before .loop-test .taken) in (at, list, directive-room (c .before .before .before .before .before .before .before .loop .inv)))
     (λ c κs. search needs) add-in-row add-in-row-2 (λ c κs. search needs) returns add-i loop-less loop-again
     (λ c κs. directive-room (c .before .loop .inv)) (λ c κs. search needs) (λ c κs. search needs) returns-2)
