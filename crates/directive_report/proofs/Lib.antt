@@ -1,0 +1,2 @@
+pub mod AreaLaws
+pub mod DirectiveReport
