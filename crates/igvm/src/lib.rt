@@ -4,12 +4,15 @@ ghost use mathlib.Core.Path.{_≡_};
 ghost use lib.ListN.{length};
 ghost use Rattle.lent.specs.Lent.{numbersPut};
 ghost use Rattle.sheet.specs.Head.{limits};
-ghost use Rattle.answers.specs.Verdict.{verdictOf};
+ghost use Rattle.answers.specs.Verdict.{verdictRefusal, verdictOf};
 ghost use Rattle.answers.specs.Strict.{strictVerdictOf};
+ghost use Rattle.answers.specs.Report.{reportOf, reportAfter};
 ghost use Rattle.answers.specs.Relocations.{relocationsOf, wordsAfter, baseCheckOf, containsOf};
 ghost use Rattle.answers.specs.BaseRanges.{baseRangeOf};
 ghost use Rattle.answers.specs.Region.{regionBaseCheckOf, regionContainsOf};
-ghost use Rattle.answers.specs.Numbers.{numberOf, verdictNumbers, relocationNumbers, answerNumbers, checkNumbers};
+ghost use Rattle.answers.specs.Numbers.{numberOf, verdictNumbers, reportNumbers, relocationNumbers, answerNumbers, checkNumbers};
+use answers::Report;
+use igvm_defs::Refusal;
 
 // ---- the verdict: 0 number, 1 row, 2 detail, 3 platform rows, 4 initialization rows, 5 directive rows
 
@@ -60,6 +63,64 @@ pub extern "C" fn igvm_strict_verdict_numbers(sheet: &[u8], numbers: &mut [u8]) 
     ensures { λ _. ⌜ now (numbers .exit) ≡ numbersPut (verdictNumbers (strictVerdictOf limits (now (sheet .entry)))) (now (numbers .entry)) ⌝ }
 {
     strict_verdict(sheet, 0, numbers)
+}
+
+// ---- the report: 0 number, 1 row, 2 detail, 3 15 applies (1 or 0), 4 34 applies (1 or 0), 5 rows, 6 faulty rows. `words` takes a word for each row
+
+// The verdict's refusal, number by number.
+fn refusal(sheet: &[u8]) -> Refusal
+    ensures { λ r. ⌜ r ≡ verdictRefusal limits (now (sheet .entry)) ⌝ }
+{
+    let mut none: [u8; 0] = [];
+    let number = verdict(sheet, 0, &mut none);
+    let row = verdict(sheet, 1, &mut none);
+    let detail = verdict(sheet, 2, &mut none);
+    Refusal {
+        number,
+        row,
+        detail,
+    }
+}
+
+// The answer, where the verdict's number is this one.
+fn reported(sheet: &[u8], number: u64, words: &mut [u8]) -> Report
+    requires { ⌜ number ≡ verdictRefusal limits (now sheet) .number ⌝ }
+    ensures { λ r. ⌜ r ≡ reportOf limits (now (sheet .entry)) (length (now (words .entry))) ⌝ }
+    ensures { λ _. ⌜ now (words .exit) ≡ reportAfter limits (now (sheet .entry)) (now (words .entry)) ⌝ }
+{
+    if (0 < number) & (number < 8) {
+        return report::refused(refusal(sheet));
+    }
+    report::report(sheet, number == 0, words)
+}
+
+fn report(sheet: &[u8], words: &mut [u8], which: u32, lent: &mut [u8]) -> u64
+    ensures { λ r. ⌜ r ≡ numberOf which (reportNumbers (reportOf limits (now (sheet .entry)) (length (now (words .entry))))) ⌝ }
+    ensures { λ _. ⌜ now (words .exit) ≡ reportAfter limits (now (sheet .entry)) (now (words .entry)) ⌝ }
+    ensures { λ _. ⌜ now (lent .exit) ≡ numbersPut (reportNumbers (reportOf limits (now (sheet .entry)) (length (now (words .entry))))) (now (lent .entry)) ⌝ }
+{
+    let mut none: [u8; 0] = [];
+    let number = verdict(sheet, 0, &mut none);
+    let found = numbers::report_numbers(reported(sheet, number, words));
+    numbers::tell(&found, which, lent)
+}
+
+#[no_mangle]
+pub extern "C" fn igvm_report(sheet: &[u8], words: &mut [u8], which: u32) -> u64
+    ensures { λ r. ⌜ r ≡ numberOf which (reportNumbers (reportOf limits (now (sheet .entry)) (length (now (words .entry))))) ⌝ }
+    ensures { λ _. ⌜ now (words .exit) ≡ reportAfter limits (now (sheet .entry)) (now (words .entry)) ⌝ }
+{
+    let mut none: [u8; 0] = [];
+    report(sheet, words, which, &mut none)
+}
+
+#[no_mangle]
+pub extern "C" fn igvm_report_numbers(sheet: &[u8], words: &mut [u8], numbers: &mut [u8]) -> u64
+    ensures { λ r. ⌜ r ≡ numberOf 0 (reportNumbers (reportOf limits (now (sheet .entry)) (length (now (words .entry))))) ⌝ }
+    ensures { λ _. ⌜ now (words .exit) ≡ reportAfter limits (now (sheet .entry)) (now (words .entry)) ⌝ }
+    ensures { λ _. ⌜ now (numbers .exit) ≡ numbersPut (reportNumbers (reportOf limits (now (sheet .entry)) (length (now (words .entry))))) (now (numbers .entry)) ⌝ }
+{
+    report(sheet, words, 0, numbers)
 }
 
 // ---- the region list: 0 number, 1 row, 2 detail, 3 count, 4 page table (1 or 0), 5 gpa, 6 size, 7 used size, 8 VP index, 9 VTL. `words` takes the regions' words

@@ -2,10 +2,11 @@
 ghost use mathlib.Core.Path.{_≡_};
 ghost use mathlib.Core.Bool.{cond};
 ghost use Rattle.lent.specs.Lent.{numbersPut};
-ghost use Rattle.answers.specs.Numbers.{numberOf, verdictNumbers, relocationNumbers, answerNumbers, checkNumbers};
+ghost use Rattle.answers.specs.Numbers.{numberOf, verdictNumbers, reportNumbers, relocationNumbers, answerNumbers, checkNumbers};
 use answers::Answered;
 use answers::Checked;
 use answers::Relocations;
+use answers::Report;
 use answers::Verdict;
 
 // Number `which`; 0 where there is no such number.
@@ -75,6 +76,21 @@ pub fn tell_verdict(v: Verdict, which: u32, lent: &mut [u8]) -> u64
     let numbers = verdict_numbers(v);
     lent::put_numbers(lent, &numbers);
     verdict_number(v, which)
+}
+
+pub fn report_numbers(a: Report) -> [u64; 7]
+    ensures { λ r. ⌜ r ≡ reportNumbers a ⌝ }
+{
+    let refusal = a.refusal;
+    [
+        refusal.number,
+        refusal.row,
+        refusal.detail,
+        number_if(a.no_platform),
+        number_if(a.no_context),
+        a.rows,
+        a.faulty,
+    ]
 }
 
 pub fn relocation_numbers(a: Relocations) -> [u64; 10]
