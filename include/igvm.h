@@ -10,7 +10,8 @@
  *
  * What a caller owes: each pointer is that of as many bytes as the length beside it says (an empty slice may be null), which no one else changes during the call,
  * nor between calls by `which` whose numbers are to be of one answer; lent bytes overlap neither the sheet nor each other. Nothing is asked of the contents, and
- * no number is out of range. Bytes that are lent behind an answer keep their contents. No byte of a sheet is read once a lent byte is written.
+ * no number is out of range. Bytes that are lent behind an answer keep their contents. In every call but igvm_report and its sibling no byte of a sheet is read once a
+ * lent byte is written.
  *
  * A call keeps nothing: it allocates nothing, has no state, and ends; calls may run on several threads at once. It takes less than IGVM_STACK_BYTES of stack. */
 #ifndef IGVM_H
@@ -24,7 +25,7 @@ extern "C" {
 #endif
 
 /* The library's version; docs/CHANGELOG.md of the repository says what changed. */
-enum { IGVM_VERSION_MAJOR = 0, IGVM_VERSION_MINOR = 6, IGVM_VERSION_PATCH = 0 };
+enum { IGVM_VERSION_MAJOR = 0, IGVM_VERSION_MINOR = 7, IGVM_VERSION_PATCH = 0 };
 
 /* Limits: a sheet with more rows in a list, or with more bytes, is refused by IGVM_ERROR_LIMIT_EXCEEDED.
  *
@@ -35,6 +36,7 @@ enum {
     IGVM_MAX_PLATFORM_ROWS = 16,
     IGVM_MAX_INITIALIZATION_ROWS = 64,
     IGVM_MAX_DIRECTIVE_ROWS = 8192,
+    IGVM_MAX_ROWS = IGVM_MAX_PLATFORM_ROWS + IGVM_MAX_INITIALIZATION_ROWS + IGVM_MAX_DIRECTIVE_ROWS,
     IGVM_MAX_SHEET_BYTES = 67108864,
     IGVM_STACK_BYTES = 114688
 };
@@ -100,6 +102,24 @@ uint64_t igvm_verdict_numbers(const uint8_t *sheet, size_t sheet_len, uint8_t *n
  * IGVM_VERDICT_NUMBERS. Before 0.6.0 there was no such call. */
 uint64_t igvm_strict_verdict(const uint8_t *sheet, size_t sheet_len, uint32_t which);
 uint64_t igvm_strict_verdict_numbers(const uint8_t *sheet, size_t sheet_len, uint8_t *numbers, size_t numbers_len);
+
+/* All faulty rows in one pass: for each row of the sheet a word in the lent bytes, the number of the refusal that the row meets where every earlier faulty row is
+ * skipped and leaves no trace, else 0. Word k, from 0, is that of row k + 1, over the three lists in row order. A row is judged after the earlier rows whose word is 0, as
+ * though there were no others before it. A word is 0, one of 8 to 14, or one of 16 to 33.
+ *
+ * What is about the sheet as a whole is told over the rows whose word is 0: 3 whether there is no platform row among them (1 or 0; IGVM_ERROR_NO_PLATFORM_HEADERS), 4
+ * whether a region among them has another VP index than 0, or shares a mask bit with no VBS context of its VTL among them (1 or 0; IGVM_ERROR_NO_MATCHING_VP_CONTEXT).
+ * 5 how many rows the sheet has, 6 how many of them are faulty: words other than 0.
+ *
+ * Faulty rows don't refuse the call: numbers 0 to 2 are 0 then. Whatever igvm_verdict refuses by 1 to 7 is refused alike, with its row and detail. Then comes
+ * IGVM_ERROR_TOO_FEW_WORDS_LENT, where fewer whole words are lent than the sheet has rows. Its rows are the sum of the three counts in its head, two bytes each at 8, 10 and
+ * 12: who lends 8 bytes for each, or 8 * IGVM_MAX_ROWS, never meets it, and a sheet without rows needs no word. A refused call writes no word.
+ *
+ * The first word other than 0 is igvm_verdict's number, and its row the verdict's, unless the sheet has no platform row, whose verdict is 15. Where all words are 0, the
+ * verdict is 15 if number 3 is 1, else 34 if number 4 is 1, else accepted. An answer has IGVM_REPORT_NUMBERS. Before 0.7.0 there was no such call. */
+enum { IGVM_NO_PLATFORM = 3, IGVM_NO_CONTEXT = 4, IGVM_ROWS = 5, IGVM_FAULTY_ROWS = 6, IGVM_REPORT_NUMBERS = 7 };
+uint64_t igvm_report(const uint8_t *sheet, size_t sheet_len, uint8_t *words, size_t words_len, uint32_t which);
+uint64_t igvm_report_numbers(const uint8_t *sheet, size_t sheet_len, uint8_t *words, size_t words_len, uint8_t *numbers, size_t numbers_len);
 
 /* The regions of a mask in header order, each as eight words in the lent bytes: base, size, alignment, minimum, maximum, flags, VP index, VTL. 3 how many
  * regions, 4 whether there is a page-table region (1 or 0), 5 its gpa, 6 its size, 7 its used size, 8 its VP index, 9 its VTL. */

@@ -8,6 +8,14 @@ mod linked {
     extern "C" {
         pub fn igvm_verdict_numbers(sheet: *const u8, sheet_len: usize, numbers: *mut u8, numbers_len: usize) -> u64;
         pub fn igvm_strict_verdict_numbers(sheet: *const u8, sheet_len: usize, numbers: *mut u8, numbers_len: usize) -> u64;
+        pub fn igvm_report_numbers(
+            sheet: *const u8,
+            sheet_len: usize,
+            words: *mut u8,
+            words_len: usize,
+            numbers: *mut u8,
+            numbers_len: usize,
+        ) -> u64;
         pub fn igvm_relocations_numbers(
             sheet: *const u8,
             sheet_len: usize,
@@ -54,6 +62,7 @@ mod linked {
     extern "C" {
         pub fn igvm_verdict(sheet: *const u8, sheet_len: usize, which: u32) -> u64;
         pub fn igvm_strict_verdict(sheet: *const u8, sheet_len: usize, which: u32) -> u64;
+        pub fn igvm_report(sheet: *const u8, sheet_len: usize, words: *mut u8, words_len: usize, which: u32) -> u64;
         pub fn igvm_relocations(sheet: *const u8, sheet_len: usize, mask: u32, words: *mut u8, words_len: usize, which: u32) -> u64;
         pub fn igvm_relocation_base_valid(sheet: *const u8, sheet_len: usize, mask: u32, region: u64, base: u64, which: u32) -> u64;
         pub fn igvm_relocation_base_range(
@@ -86,6 +95,14 @@ fn strict_verdict_numbers(sheet: &[u8]) -> [u64; 6] {
     numbers(|lent| unsafe { linked::igvm_strict_verdict_numbers(sheet.as_ptr(), sheet.len(), lent.as_mut_ptr(), lent.len()) })
 }
 
+pub(crate) fn report_numbers(sheet: &[u8], words: &mut [u8]) -> [u64; 7] {
+    let (sheet_len, words_len) = (sheet.len(), words.len());
+    // SAFETY: the pointers and the lengths are those of three slices that share nothing; the sheet is only read.
+    numbers(|lent| unsafe {
+        linked::igvm_report_numbers(sheet.as_ptr(), sheet_len, words.as_mut_ptr(), words_len, lent.as_mut_ptr(), lent.len())
+    })
+}
+
 fn relocations_numbers(sheet: &[u8], mask: u32, words: &mut [u8]) -> [u64; 10] {
     let (sheet_len, words_len) = (sheet.len(), words.len());
     // SAFETY: the pointers and the lengths are those of three slices that share nothing; the sheet is only read.
@@ -115,7 +132,7 @@ fn contains_numbers(sheet: &[u8], mask: u32, region: u64, gpa: u64) -> [u64; 4] 
 }
 
 /// The numbers of an answer, unless the first three say that it is a refusal.
-fn accepted<const COUNT: usize>(sheet: &[u8], numbers: [u64; COUNT]) -> Result<[u64; COUNT], Refusal> {
+pub(crate) fn accepted<const COUNT: usize>(sheet: &[u8], numbers: [u64; COUNT]) -> Result<[u64; COUNT], Refusal> {
     match numbers[0] {
         0 => Ok(numbers),
         number => Err(Refusal::from_numbers(number, numbers[1], numbers[2]).in_sheet(sheet)),
@@ -433,6 +450,7 @@ pub fn contains(sheet: &[u8], mask: u32, region: u64, gpa: u64) -> Result<bool, 
 #[cfg(test)]
 mod tests {
     use super::*;
+    use crate::place::row_counts;
     use std::collections::BTreeSet;
     use std::fs;
 
@@ -469,6 +487,27 @@ mod tests {
             refusals.insert(strict[0]);
         }
         assert_eq!(refusals.into_iter().collect::<Vec<_>>(), (0..=34).chain([38]).collect::<Vec<_>>());
+    }
+
+    #[test]
+    fn a_reports_numbers_and_words_are_those_of_the_calls_by_which() {
+        let (mut refusals, mut told) = (BTreeSet::new(), BTreeSet::new());
+        for sheet in sheets() {
+            let rows: usize = row_counts(&sheet).map_or(0, |counts| counts.iter().sum());
+            for lent in [0, (8 * rows).saturating_sub(1), 8 * rows, 8 * rows + 9] {
+                let (mut words, mut single_words) = (vec![0xA5; lent], vec![0xA5; lent]);
+                // SAFETY: the pointers and the lengths are those of two slices that share nothing; the sheet is only read.
+                let single =
+                    one_by_one(|which| unsafe { linked::igvm_report(sheet.as_ptr(), sheet.len(), single_words.as_mut_ptr(), lent, which) });
+                assert_eq!(report_numbers(&sheet, &mut words), single);
+                assert_eq!(words, single_words);
+                assert!(single[0] == 0 || single[3..] == [0; 4] && words == vec![0xA5; lent], "a refusal has no other number and no word");
+                refusals.insert(single[0]);
+                told.insert((single[3], single[4]));
+            }
+        }
+        assert_eq!(refusals.into_iter().collect::<Vec<_>>(), (0..=7).chain([37]).collect::<Vec<_>>());
+        assert_eq!(told.into_iter().collect::<Vec<_>>(), [(0, 0), (0, 1), (1, 0)]);
     }
 
     #[test]
@@ -538,6 +577,19 @@ mod tests {
         // SAFETY: as above.
         let number = unsafe { linked::igvm_strict_verdict_numbers(sheet.as_ptr(), sheet.len(), lent.as_mut_ptr(), lent.len()) };
         assert_eq!((number, lent), (2, [0xA5; 47]));
+        let (mut words, mut lent) = ([0xA5; 25], [0xA5; 55]);
+        let mut report = |sheet: &[u8]| {
+            // SAFETY: the pointers and the lengths are those of three slices that share nothing; the sheet is only read.
+            let number = unsafe {
+                linked::igvm_report_numbers(sheet.as_ptr(), sheet.len(), words.as_mut_ptr(), words.len(), lent.as_mut_ptr(), lent.len())
+            };
+            (number, words, lent)
+        };
+        assert_eq!(report(&sheet), (2, [0xA5; 25], [0xA5; 55]));
+        let mask_3 = fs::read(concat!(env!("CARGO_MANIFEST_DIR"), "/../../samples/08-platform-mask-3.sheet")).unwrap();
+        let mut rows = [0xA5; 25];
+        rows[..24].copy_from_slice([8, 0, 0].map(u64::to_le_bytes).as_flattened());
+        assert_eq!(report(&mask_3), (0, rows, [0xA5; 55]), "the words of the rows are put all the same");
         let mut lent = [0xA5; 31];
         // SAFETY: as above.
         let number =

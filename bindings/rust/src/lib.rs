@@ -4,7 +4,7 @@
 //! accepted, [`strict_verdict`] whether each of its regions has a context for every platform too, and [`relocations`] which regions of a mask may be relocated;
 //! the methods of a region say where to, and by a [`BaseCheck`] why not. Where its base is known only as a range, [`relocation_base_range`] says by a [`BaseRange`]
 //! whether it may go to all of it. Each takes any bytes, makes one call of the library, and answers or gives one [`Refusal`], with its row, its list and index
-//! there, its reason and its cure.
+//! there, its reason and its cure. A refusal is the first fault alone: [`report`] tells an image's builder of all faulty rows in one pass.
 //!
 //! ```
 //! use sapyullu::*;
@@ -37,7 +37,7 @@
 //!
 //! In the repository: docs/SHEET.md has the sheet's layout and its limits, docs/REFUSALS.md each refusal with what it means, docs/MIGRATION.md the way from
 //! crate igvm to this one, docs/DIFFERENCES.md where the answers differ from that crate's. The program examples/explain.rs puts a sheet into words and says
-//! what is wrong with it.
+//! what is wrong with it, examples/report.rs what is wrong with each of its rows.
 
 #![deny(missing_docs)]
 
@@ -49,6 +49,7 @@ mod calls;
 mod headers;
 mod place;
 mod refusal;
+mod report;
 mod sheet;
 
 pub use base_check::BaseCheck;
@@ -59,6 +60,7 @@ pub use headers::{Arch, IgvmDirectiveHeader, IgvmInitializationHeader, IgvmPlatf
 pub use headers::{IgvmPageDataType, IgvmPlatformType, IGVM_VHS_PARAMETER, IGVM_VHS_PARAMETER_INSERT, IGVM_VHS_SUPPORTED_PLATFORM};
 pub use place::{List, Place};
 pub use refusal::{Error, Refusal};
+pub use report::{report, report_into, FaultyRow, Report, Reported};
 pub use sheet::{sheet_bytes, Sheet, SheetError};
 
 // The Rust in the repository's README is run by the tests. Its other blocks are fenced and name their language.

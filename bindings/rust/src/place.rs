@@ -27,6 +27,12 @@ impl fmt::Display for List {
     }
 }
 
+/// The numbers of rows in the sheet's head, of each list. None where the sheet is too short to have a head.
+pub(crate) fn row_counts(sheet: &[u8]) -> Option<[usize; 3]> {
+    let head = sheet.get(..16)?;
+    Some([8, 10, 12].map(|at| usize::from(u16::from_le_bytes([head[at], head[at + 1]]))))
+}
+
 /// A row's list and its index there, from 0, as in the `Vec` of headers that the list was made of.
 #[derive(Debug, Clone, Copy, PartialEq, Eq, PartialOrd, Ord, Hash)]
 pub struct Place {
@@ -50,7 +56,7 @@ impl Place {
     /// assert_eq!(Place::of_row(&head, 7), None);
     /// ```
     pub fn of_row(sheet: &[u8], row: u64) -> Option<Place> {
-        let counts = sheet.get(..16)?[8..14].chunks_exact(2).map(|count| usize::from(u16::from_le_bytes([count[0], count[1]])));
+        let counts = row_counts(sheet)?;
         let mut index = usize::try_from(row).ok()?.checked_sub(1)?;
         for (list, count) in List::ALL.into_iter().zip(counts) {
             if index < count {

@@ -160,8 +160,8 @@ errors! {
         "ask with the mask of a platform", Detail::None;
     36 NoSuchRegion, "the mask has no relocatable region of this number",
         "ask for a number below the mask's count of relocatable regions", Detail::None;
-    37 TooFewWordsLent, "fewer bytes are lent than the regions take",
-        "lend 64 bytes for each region; 4,096 are enough for any sheet", Detail::None;
+    37 TooFewWordsLent, "fewer whole words are lent than the answer takes",
+        "lend 64 bytes for each region of a region list, or 8 for each row of a report; 4,096 and 66,176 are enough for any sheet", Detail::None;
     38 BitWithoutVpContext, "the region's mask has a bit that no VBS context of its VTL has",
         "list for each bit of the region's mask a VBS context of its VTL with that bit, or take the bit out of the region's mask", Hexadecimal("mask");
     50 LowestAboveHighest, "the range's lowest base is above its highest",
@@ -175,6 +175,20 @@ impl fmt::Display for Error {
 }
 
 impl std::error::Error for Error {}
+
+impl Error {
+    /// Number, name, row and place, if there is one, and what is wrong.
+    pub(crate) fn write_at(self, row: Option<u64>, place: Option<Place>, f: &mut fmt::Formatter<'_>) -> fmt::Result {
+        write!(f, "refusal {} ({})", self.number(), self.name())?;
+        if let Some(row) = row {
+            write!(f, " in row {row}")?;
+        }
+        if let Some(place) = place {
+            write!(f, " ({place})")?;
+        }
+        write!(f, ": {self}")
+    }
+}
 
 impl Refusal {
     /// The refusal of an answer's first three numbers: number, row (0 for none) and detail. [`in_sheet`](Self::in_sheet) adds its place.
@@ -195,14 +209,7 @@ impl Refusal {
 
 impl fmt::Display for Refusal {
     fn fmt(&self, f: &mut fmt::Formatter<'_>) -> fmt::Result {
-        write!(f, "refusal {} ({})", self.error.number(), self.error.name())?;
-        if let Some(row) = self.row {
-            write!(f, " in row {row}")?;
-        }
-        if let Some(place) = self.place {
-            write!(f, " ({place})")?;
-        }
-        write!(f, ": {}", self.error)?;
+        self.error.write_at(self.row, self.place, f)?;
         match self.error.detail() {
             Detail::None => Ok(()),
             Decimal(meaning) => write!(f, " ({meaning} {})", self.detail),

@@ -1,4 +1,4 @@
-//! A sheet is one allocation, of its length, and the calls allocate nothing but a list of regions.
+//! A sheet is one allocation, of its length, and the calls allocate nothing but a list of regions, and a report's words and its list.
 
 mod common;
 mod counting;
@@ -41,6 +41,25 @@ fn a_list_of_regions_is_one_allocation_and_other_answers_are_none() {
         let words = region.contains(0) && region.relocation_base_valid(0).is_valid();
         let verdicts = verdict(&sheet).is_ok() && verdict(&[]).is_err() && strict_verdict(&sheet).is_ok() && strict_verdict(&[]).is_err();
         checks && ranges && words && verdicts
+    });
+    assert!(answers);
+    assert_eq!(made, []);
+}
+
+#[test]
+fn a_report_allocates_its_words_and_its_list_and_in_lent_bytes_nothing() {
+    let mut sheet = large();
+    let in_order = sheet.bytes().unwrap();
+    sheet.initialization_headers[1] = region(0x2000, 0);
+    let faulty = sheet.bytes().unwrap();
+    let (found, made) = counted(|| report(&in_order).unwrap());
+    assert_eq!((found.is_accepted(), made), (true, vec![8 * (1 + 64 + 21)]));
+    let (found, made) = counted(|| report(&faulty).unwrap());
+    assert_eq!((found.faulty.len(), made.len(), made[0]), (1, 2, 8 * (1 + 64 + 21)));
+    let mut words = [0; 8 * (1 + 64 + 21)];
+    let (answers, made) = counted(|| {
+        let reported = report_into(&in_order, &mut words).is_ok() && report_into(&faulty, &mut words).is_ok();
+        reported && report_into(&faulty, &mut words[1..]).is_err() && report_into(&[], &mut []).is_err()
     });
     assert!(answers);
     assert_eq!(made, []);

@@ -276,6 +276,8 @@ fn empty_input_is_refused_by_every_call() {
     let refusal = Refusal::from_numbers(1, 0, 0);
     assert_eq!(verdict(&[]), Err(refusal));
     assert_eq!(strict_verdict(&[]), Err(refusal));
+    assert_eq!(report(&[]), Err(refusal));
+    assert_eq!(report_into(&[], &mut []), Err(refusal));
     assert_eq!(relocations(&[], 1), Err(refusal));
     assert_eq!(relocations_into(&[], 1, &mut []), Err(refusal));
     assert_eq!(relocation_base_valid(&[], 1, 0, 0), Err(refusal));

@@ -41,6 +41,8 @@ fn over_a_limit(sheet: &[u8]) {
     let mut lent = [0xA5; REGION_BYTES];
     assert_eq!(verdict(sheet), Err(refusal));
     assert_eq!(strict_verdict(sheet), Err(refusal));
+    assert_eq!(report(sheet), Err(refusal));
+    assert_eq!(report_into(sheet, &mut lent), Err(refusal));
     assert_eq!(relocations(sheet, 0), Err(refusal));
     assert_eq!(relocations_into(sheet, 1, &mut lent), Err(refusal));
     assert_eq!(lent, [0xA5; REGION_BYTES]);
@@ -116,6 +118,38 @@ fn every_directive_row_may_allocate_an_area() {
     assert_eq!(refusal.place, Some(Place { list: List::Directive, index: 8191 }));
 }
 
+#[test]
+fn every_row_of_the_largest_lists_is_reported() {
+    let b = image_b();
+    let (platforms, regions) = (vec![b.platform_headers[0].clone(); 16], vec![b.initialization_headers[0].clone(); 64]);
+    let directives: Vec<_> = (0..8192).map(|row| if row % 2 == 0 { page(1, &[]) } else { area(row / 4) }).collect();
+    let sheet = sheet_bytes(b.revision, &platforms, &regions, &directives).unwrap();
+    let number = |row: u64| match row {
+        1 | 17 => 0,
+        2..=16 => 14,
+        18..=80 => 29,
+        row if row % 2 == 1 => 21,
+        row => [32, 0][(row / 2 % 2) as usize],
+    };
+    let expected: Vec<u8> = (1..=8272).flat_map(|row| u64::to_le_bytes(number(row))).collect();
+    let mut words = vec![0xA5; expected.len() + 3];
+    let reported = report_into(&sheet, &mut words).unwrap();
+    assert_eq!(
+        (reported.rows, reported.faulty_rows, reported.no_platform, reported.no_context),
+        (8272, 15 + 63 + 4096 + 2048, false, true)
+    );
+    assert_eq!(words, [&expected[..], &[0xA5; 3]].concat());
+    let found = report(&sheet).unwrap();
+    assert_eq!((found.rows, found.faulty.len()), (8272, 15 + 63 + 4096 + 2048));
+    assert!(found
+        .faulty
+        .iter()
+        .all(|faulty| faulty.error.number() == number(faulty.row) && faulty.place == Place::of_row(&sheet, faulty.row)));
+    let mut short = vec![0xA5; expected.len() - 1];
+    assert_eq!(report_into(&sheet, &mut short).unwrap_err().line(), "refused 37 row 0 detail 0");
+    assert_eq!(short, vec![0xA5; expected.len() - 1]);
+}
+
 /// The library takes less than 114,688 bytes of stack, the crate some thousand more.
 #[test]
 fn a_thread_with_128_kib_of_stack_is_enough() {
@@ -124,6 +158,7 @@ fn a_thread_with_128_kib_of_stack_is_enough() {
     for (sheet, count) in [(with_directives(&accepted), Some(1)), (with_directives(&refused), None)] {
         let calls = move || {
             assert_eq!(strict_verdict(&sheet), verdict(&sheet));
+            assert_eq!(report(&sheet).unwrap().is_accepted(), verdict(&sheet).is_ok());
             assert_eq!(relocation_base_valid(&sheet, 1, 0, 0).is_ok(), verdict(&sheet).is_ok());
             assert_eq!(relocation_base_range(&sheet, 1, 0, 0, 0).is_ok(), verdict(&sheet).is_ok());
             relocations(&sheet, 1).ok().map(|found| found.regions.len())
