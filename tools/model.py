@@ -1,5 +1,5 @@
-"""The verdict of document 01 on a sheet, with the limits of request 1, the strict verdict of request 3, the refusals of its queries, the base check of request 7, and the
-range of request 13, written from the papers alone and as plainly as it goes.
+"""The verdict of document 01 on a sheet, with the limits of request 1, the report of request 2, the strict verdict of request 3, the refusals of its queries, the base
+check of request 7, and the range of request 13, written from the papers alone and as plainly as it goes.
 
 It serves one purpose: `sheets.py --check` holds the lines that are written by hand beside the samples against it.
 Rows are numbered from 1 across the lists, as in the paper.
@@ -74,117 +74,127 @@ def codes_ok(kind, body):
     return kind not in (47, 48) or body[4] <= 2
 
 
-def platform_rows(arch, rows):
-    """Refusals 8 to 15. Gives the type that counts for each mask: the last."""
-    types = []
-    of_mask = {}
-    for row, _, body in rows:
-        mask, highest_vtl, type_, version, boundary = struct.unpack("<IBBHQ", body)
-        refuse(mask.bit_count() != 1, 8, row)
-        refuse(highest_vtl not in (0, 2), 9, row)
-        refuse(type_ > 6, 12, row)
-        refuse(version != 1, 10, row)
-        refuse(type_ in (0, 1) and boundary != 0, 11, row)
-        refuse(type_ == CCA and arch != AARCH64, 13, row, type_)
-        refuse(type_ in (0, 2, 3, 4, 5) and arch != X64, 13, row, type_)
-        refuse(type_ in types, 14, row)
-        types.append(type_)
-        of_mask[mask] = type_
-    refuse(not rows, 15)
-    return of_mask
+class Kept:
+    """What the rows that are kept leave for later ones: platforms, each a mask and a type; regions of kinds 18 and 19, each a kind, mask, gpa, size, VP and VTL, and those
+    of kind 18 with where they may go, alignment, size, minimum and maximum; areas allocated and inserted; VBS contexts, each a mask and a VTL.
+
+    The functions below judge a row behind these. A row that is refused leaves nothing: what it would leave is put down behind all of its tests."""
+
+    def __init__(self, arch):
+        self.arch = arch
+        self.platforms, self.regions, self.bounds, self.contexts = [], [], [], []
+        self.allocated, self.inserted = set(), set()
 
 
-def initialization_rows(arch, of_mask, rows):
-    """Refusals 16 to 29. Gives the regions and the page tables: mask, gpa, size, VP, VTL; and of each region where it may go: alignment, size, minimum, maximum."""
-    regions, page_tables, bounds = [], [], []
-    for row, kind, body in rows:
-        if kind == 17:
-            cca_policy(arch, of_mask, row, body)
-        elif kind == 18:
-            mask, alignment, gpa, size, minimum, maximum, _, vp, vtl = struct.unpack("<IQQQQQBHB", body)
-            refuse(size % PAGE != 0, 17, row)
-            refuse(alignment % PAGE != 0, 18, row)
-            refuse(alignment == 0, 19, row)
-            for address in (gpa, minimum, maximum):
-                refuse(address % alignment != 0, 20, row, address)
-            sound(row, mask, gpa, size, regions + page_tables)
-            regions.append((mask, gpa, size, vp, vtl))
-            bounds.append((alignment, size, minimum, maximum))
-        elif kind == 19:
-            mask, gpa, size, used, vp, vtl = struct.unpack("<IQQQHB", body)
-            refuse(gpa % PAGE != 0, 21, row, gpa)
-            refuse(size % PAGE != 0, 22, row, size)
-            refuse(used % PAGE != 0, 22, row, used)
-            refuse(used > size, 23, row)
-            refuse(any(mask & earlier[0] for earlier in page_tables), 26, row)
-            sound(row, mask, gpa, size, regions + page_tables)
-            page_tables.append((mask, gpa, size, vp, vtl))
-    return regions, page_tables, bounds
+def platform_row(kept, row, _, body):
+    """Refusals 8 to 14."""
+    mask, highest_vtl, type_, version, boundary = struct.unpack("<IBBHQ", body)
+    refuse(mask.bit_count() != 1, 8, row)
+    refuse(highest_vtl not in (0, 2), 9, row)
+    refuse(type_ > 6, 12, row)
+    refuse(version != 1, 10, row)
+    refuse(type_ in (0, 1) and boundary != 0, 11, row)
+    refuse(type_ == CCA and kept.arch != AARCH64, 13, row, type_)
+    refuse(type_ in (0, 2, 3, 4, 5) and kept.arch != X64, 13, row, type_)
+    refuse(any(type_ == type2 for _, type2 in kept.platforms), 14, row)
+    kept.platforms.append((mask, type_))
 
 
-def cca_policy(arch, of_mask, row, body):
+def initialization_row(kept, row, kind, body):
+    """Refusals 16 to 29."""
+    if kind == 17:
+        cca_policy(kept, row, body)
+    elif kind == 18:
+        mask, alignment, gpa, size, minimum, maximum, _, vp, vtl = struct.unpack("<IQQQQQBHB", body)
+        refuse(size % PAGE != 0, 17, row)
+        refuse(alignment % PAGE != 0, 18, row)
+        refuse(alignment == 0, 19, row)
+        for address in (gpa, minimum, maximum):
+            refuse(address % alignment != 0, 20, row, address)
+        sound(kept, row, mask, gpa, size)
+        kept.regions.append((kind, mask, gpa, size, vp, vtl))
+        kept.bounds.append((mask, (alignment, size, minimum, maximum)))
+    elif kind == 19:
+        mask, gpa, size, used, vp, vtl = struct.unpack("<IQQQHB", body)
+        refuse(gpa % PAGE != 0, 21, row, gpa)
+        refuse(size % PAGE != 0, 22, row, size)
+        refuse(used % PAGE != 0, 22, row, used)
+        refuse(used > size, 23, row)
+        refuse(any(kind2 == 19 and mask & mask2 for kind2, mask2, *_ in kept.regions), 26, row)
+        sound(kept, row, mask, gpa, size)
+        kept.regions.append((kind, mask, gpa, size, vp, vtl))
+
+
+def cca_policy(kept, row, body):
     mask, zeroes, ones, _ = struct.unpack("<IQQH", body)
     refuse(zeroes & ones != 0, 16, row)
-    refuse(arch != AARCH64, 24, row, 17)
+    refuse(kept.arch != AARCH64, 24, row, 17)
+    # Of the platforms of one mask the last counts.
+    of_mask = dict(kept.platforms)
     for bit in range(32):
         refuse(mask & 1 << bit and of_mask.get(1 << bit) != CCA, 25, row, 1 << bit)
 
 
-def sound(row, mask, gpa, size, earlier):
+def sound(kept, row, mask, gpa, size):
     """27, 28, 29: a region of either kind among those before it."""
     refuse(size == 0, 27, row)
     refuse(gpa + size > 2**64 - 1, 28, row)
-    for mask2, gpa2, size2, _, _ in earlier:
+    for _, mask2, gpa2, size2, _, _ in kept.regions:
         refuse(mask & mask2 and gpa < gpa2 + size2 and gpa2 < gpa + size, 29, row)
 
 
-def directive_rows(arch, page_tables, rows):
-    """Refusals 21, 22, 24 and 30 to 33. Gives the VBS contexts: mask, VTL."""
-    allocated, inserted = set(), set()
-    contexts = []
-    for row, kind, body in rows:
-        if kind in (32, 44, 45, 50, 51):
-            gpa, mask = struct.unpack_from("<QI", body)
-            refuse(gpa % PAGE != 0, 21, row, gpa)
-        if kind == 32:
-            refuse(struct.unpack_from("<H", body, 16)[0] > 3, 30, row)
-            refuse(len(body) - 18 > 4096, 31, row)
-        elif kind == 33:
-            size, area = struct.unpack_from("<QI", body)
-            refuse(size % PAGE != 0, 22, row, size)
-            refuse(len(body) - 12 > size, 31, row)
-            refuse(area in allocated, 32, row)
-            allocated.add(area)
-        elif 34 <= kind <= 43:
-            area, _ = struct.unpack("<II", body)
-            refuse(area not in allocated or area in inserted, 32, row)
-        elif kind == 44:
-            size = struct.unpack_from("<I", body, 12)[0]
-            refuse(size % PAGE != 0, 22, row, size)
-        elif kind in (46, 47):
-            refuse(arch != X64, 24, row, kind)
-        elif kind in (48, 49):
-            refuse(arch != AARCH64, 24, row, kind)
-        elif kind == 50:
-            area = struct.unpack_from("<I", body, 12)[0]
-            refuse(area not in allocated or area in inserted, 32, row)
-            inserted.add(area)
-            for mask2, gpa2, size2, _, _ in page_tables:
-                refuse(mask & mask2 and gpa2 <= gpa < gpa2 + size2, 33, row)
-        if kind in (47, 48):
-            contexts.append(struct.unpack_from("<IB", body))
-    return contexts
+def directive_row(kept, row, kind, body):
+    """Refusals 21, 22, 24 and 30 to 33."""
+    if kind in (32, 44, 45, 50, 51):
+        gpa, mask = struct.unpack_from("<QI", body)
+        refuse(gpa % PAGE != 0, 21, row, gpa)
+    if kind == 32:
+        refuse(struct.unpack_from("<H", body, 16)[0] > 3, 30, row)
+        refuse(len(body) - 18 > 4096, 31, row)
+    elif kind == 33:
+        size, area = struct.unpack_from("<QI", body)
+        refuse(size % PAGE != 0, 22, row, size)
+        refuse(len(body) - 12 > size, 31, row)
+        refuse(area in kept.allocated, 32, row)
+        kept.allocated.add(area)
+    elif 34 <= kind <= 43:
+        area, _ = struct.unpack("<II", body)
+        refuse(area not in kept.allocated or area in kept.inserted, 32, row)
+    elif kind == 44:
+        size = struct.unpack_from("<I", body, 12)[0]
+        refuse(size % PAGE != 0, 22, row, size)
+    elif kind in (46, 47):
+        refuse(kept.arch != X64, 24, row, kind)
+    elif kind in (48, 49):
+        refuse(kept.arch != AARCH64, 24, row, kind)
+    elif kind == 50:
+        area = struct.unpack_from("<I", body, 12)[0]
+        refuse(area not in kept.allocated or area in kept.inserted, 32, row)
+        for kind2, mask2, gpa2, size2, _, _ in kept.regions:
+            refuse(kind2 == 19 and mask & mask2 and gpa2 <= gpa < gpa2 + size2, 33, row)
+        kept.inserted.add(area)
+    if kind in (47, 48):
+        kept.contexts.append(struct.unpack_from("<IB", body))
+
+
+def lacks_context(kept):
+    """34: whether a region of either kind has another VP index than 0, or shares a bit with no VBS context of its VTL."""
+    return any(vp != 0 or not any(mask & mask2 and vtl == vtl2 for mask2, vtl2 in kept.contexts) for _, mask, _, _, vp, vtl in kept.regions)
 
 
 def admitted(s):
-    """The three lists of an accepted sheet, its kind 18 regions, each a mask and where it may go, and its VBS contexts, each a mask and a VTL; else Refused is raised."""
+    """The three lists of an accepted sheet, and what its rows leave; else Refused is raised."""
     arch, lists = read(s)
-    of_mask = platform_rows(arch, lists[0])
-    regions, page_tables, bounds = initialization_rows(arch, of_mask, lists[1])
-    contexts = directive_rows(arch, page_tables, lists[2])
-    for mask, _, _, vp, vtl in regions + page_tables:
-        refuse(vp != 0 or not any(mask & mask2 and vtl == vtl2 for mask2, vtl2 in contexts), 34)
-    return lists, [(mask, where) for (mask, *_), where in zip(regions, bounds)], contexts
+    kept = Kept(arch)
+    for row in lists[0]:
+        platform_row(kept, *row)
+    refuse(not lists[0], 15)
+    for row in lists[1]:
+        initialization_row(kept, *row)
+    for row in lists[2]:
+        directive_row(kept, *row)
+    refuse(lacks_context(kept), 34)
+    return lists, kept
 
 
 def counted(lists):
@@ -193,29 +203,56 @@ def counted(lists):
 
 def verdict(s):
     """The counts of rows of an accepted sheet."""
-    lists, *_ = admitted(s)
+    lists, _ = admitted(s)
     return counted(lists)
 
 
 def strict_verdict(s):
     """38, where the verdict accepts: a region of either kind has a mask bit that no VBS context of its VTL has. The row is the first such region's, the detail its
     lowest such bit."""
-    lists, _, contexts = admitted(s)
+    lists, kept = admitted(s)
     for row, kind, body in lists[1]:
         if kind in (18, 19):
             # In both kinds the mask comes first and the VTL last.
             mask, vtl = int.from_bytes(body[:4], "little"), body[-1]
             for bit in range(32):
-                served = any(mask2 & 1 << bit and vtl == vtl2 for mask2, vtl2 in contexts)
+                served = any(mask2 & 1 << bit and vtl == vtl2 for mask2, vtl2 in kept.contexts)
                 refuse(mask & 1 << bit and not served, 38, row, 1 << bit)
     return counted(lists)
 
 
+def report_words(s):
+    """The word of each row: the number of the refusal that the row meets where every earlier faulty row is skipped and leaves no trace, else 0. And what the rows whose word
+    is 0 leave. Refusals 1 to 7."""
+    arch, lists = read(s)
+    kept = Kept(arch)
+    found = []
+    for judge, rows in zip((platform_row, initialization_row, directive_row), lists):
+        for row in rows:
+            try:
+                judge(kept, *row)
+                found.append(0)
+            except Refused as refusal:
+                found.append(refusal.args[0])
+    return found, kept
+
+
+def report(s, lent=None):
+    """37: a word for each row, in the bytes lent (None: as many as it takes). Then how many rows of how many are faulty, and each fault with its row; 15, if no platform row
+    is kept, and 34, of the regions and the contexts that are kept, have row 0."""
+    found, kept = report_words(s)
+    refuse(lent is not None and lent // 8 < len(found), 37)
+    faults = [(number, row) for row, number in enumerate(found, 1) if number != 0]
+    said = [f"reported {len(faults)} of {len(found)}", *(f"{number} row {row}" for number, row in faults)]
+    said += ["15 row 0"] * (not kept.platforms) + ["34 row 0"] * lacks_context(kept)
+    return ", ".join(said)
+
+
 def matching(s, mask):
     """35: where the regions may go that match the query mask, those whose mask holds every bit of it."""
-    _, regions, _ = admitted(s)
+    _, kept = admitted(s)
     refuse(mask == 0, 35)
-    return [where for mask2, where in regions if mask2 & mask == mask]
+    return [where for mask2, where in kept.bounds if mask2 & mask == mask]
 
 
 def relocations(s, mask, lent):
@@ -270,14 +307,14 @@ def base_range(s, mask, region, lowest, highest):
     return "answered 3"
 
 
-CALLS = {"verdict": verdict, "strict_verdict": strict_verdict, "relocations": relocations, "relocation_base_valid": base_check,
+CALLS = {"verdict": verdict, "strict_verdict": strict_verdict, "report": report, "relocations": relocations, "relocation_base_valid": base_check,
          "relocation_base_range": base_range, "contains": contains}
 
 
 def line(s, call="verdict"):
     """The line that `admit` writes of a sheet, where the call is the verdict; a sheet of more than 65,536 bytes is answered as by the call.
     Another call has the names of its numbers, each before its number, if it takes some: `relocations mask 1 lent 64`. Where it is refused, the line says so
-    likewise; of a base or a range that is checked, it says which answer is given, by its number."""
+    likewise; of a base or a range that is checked, it says which answer is given, by its number; of a report all faults, each with its row."""
     name, *words = call.split()
     try:
         return CALLS[name](s, **dict(zip(words[::2], map(int, words[1::2]))))

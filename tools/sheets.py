@@ -8,7 +8,8 @@ other numbers in its head. A is B on AArch64. What can't be said in this way cha
 
 The line beside a sample is written by hand from the paper. `--check` holds it against tools/model.py.
 
-    tools/sheets.py --check              every line against the model, and the files of crates/admit_sheets and of samples against what is written
+    tools/sheets.py --check              every line against the model, the model's reports against its verdicts, and the files of crates/admit_sheets and of samples against what
+                                         is written
     tools/sheets.py --list               each sample's name, line and description
     tools/sheets.py --write DIR NAME..   write these samples (no NAME: all of up to 65,536 bytes) into DIR, and print 'name: line' for each
     tools/sheets.py --gate               write args, data/ and stdout of the program crates/admit_sheets
@@ -530,6 +531,37 @@ refused("34-mask-3", 0, 0, "region mask 3, context mask 1, then a region without
 accepted("context-late", "1 1 3", "the context behind other rows", B.directives(parameter_area(), page_data(), x64_vbs()))
 refused("32-before-34", 4, 0, "34 last: context mask 2, and row 4 names no area", B.directives(x64_vbs(mask=2), vp_count()))
 
+# faults in several rows: what a report tells of the later ones, which the verdict does not come to
+refused("08-every-row", 1, 0, "platform mask 3, region alignment 0, a context of kind 48 on X64",
+        B.platforms(platform(mask=3)).initializations(region(alignment=0)).directives(aarch64_vbs()))
+refused("10-type-again", 1, 0, "type 0 of version 2, then type 0, then type 0 again", B.platforms(platform(version=2), platform(), platform(mask=2)))
+refused("10-last-of-a-mask", 2, 0, "CCA of mask 1, type 1 of that mask and version 2, CCA again of mask 2, and a CcaPolicy of each mask",
+        CCA.plus(platform(type=1, version=2), platform(type=6, mask=2), cca_policy(), cca_policy(mask=2)))
+refused("15-faulty-rows", 0, 0, "no platform; a region, a CcaPolicy of mask 3, a region of alignment 0",
+        A.platforms().initializations(region(), cca_policy(mask=3), region(alignment=0)))
+refused("26-masks-1-3-2", 4, 0, "page tables of masks 1, 3 and 2, the last two at one place",
+        TABLE.plus(page_table(mask=3, gpa=0x400000), page_table(mask=2, gpa=0x400000)).directives(x64_vbs(mask=3)))
+refused("27-five-page-tables", 3, 0, "page tables of mask 1: of size 0, at the highest page, in the region, and twice at places of their own",
+        B.plus(page_table(size=0, used=0), page_table(gpa=TOP), page_table(gpa=0x101000), page_table(), page_table(gpa=0x400000)))
+refused("29-masks-2-7-1-4", 3, 0, "regions of masks 2, 7, 1 and 4 at one place",
+        B.initializations(*[region(mask=mask) for mask in (2, 7, 1, 4)]).directives(x64_vbs(mask=7)))
+refused("29-without-context", 3, 0, "row 3 overlaps, and has no context", B.plus(region(gpa=0x101000, vtl=1)))
+refused("21-vp-1", 4, 1, "region, VP 1, and a page at gpa 1", B.initializations(region(vp=1)).plus(page_data(gpa=1)))
+refused("22-area-allocated-again", 4, 0x800, "area 0 of 0x800 bytes, named; area 1 of no bytes with one of data, inserted; area 0 allocated again, named and inserted", B.plus(
+    parameter_area(bytes=0x800), vp_count(), parameter_area(bytes=0, area=1, tail=b"x"), parameter_insert(area=1), parameter_area(), vp_count(), parameter_insert(),
+))
+refused("24-only-context", 3, 48, "the region's only context is of kind 48; a page of type 4", B.directives(aarch64_vbs(), page_data(type=4)))
+refused("33-inserted-again", 6, 0, "area 0 inserted in the page table, named, inserted elsewhere, and inserted once more",
+        IN_TABLE.plus(parameter_insert(gpa=0x300000), vp_count(), parameter_insert(), parameter_insert(gpa=0x1000)))
+refused("08-many-faults", 2, 0, "faults in all three lists, and rows between them that are in order", B.platforms(
+    platform(), platform(type=1, mask=6), platform(type=2, mask=2, version=2), platform(type=2, mask=2), platform(mask=4),
+).initializations(
+    region(), region(gpa=0x101000), region(gpa=0x102000), region(gpa=0x106000, alignment=0), region(gpa=0x108000, vtl=1), page_table(gpa=1), page_table(),
+).directives(
+    x64_vbs(), page_data(type=4), parameter_area(bytes=0x800), vp_count(), parameter_area(), parameter_insert(gpa=0x301000), parameter_insert(gpa=0x500000),
+    aarch64_vbs(vtl=1),
+))
+
 # the largest lists
 SIXTY_FOUR = [region(gpa=0x2000 * number, maximum=TOP) for number in range(64)]
 FULL = B.platforms(*SIX).initializations(*SIXTY_FOUR)
@@ -574,6 +606,9 @@ refused("33-1025-spread-areas", 1030, 0, "1,025 such areas, then the last insert
 refused("34-1025-spread-areas", 0, 0, "1,025 such areas, and a region without its context", B.directives(*allocated(SPREAD[:1025])))
 refused("06-1025-spread-areas", 0, 0, "1,025 such areas, and one byte more", bytes(ALONE.plus(*allocated(SPREAD[:1025]))) + b"\0")
 accepted("1025-areas-and-context", "1 2 1026", "1,025 such areas behind the context of a region and a page table", TABLE.plus(*allocated(SPREAD[:1025])))
+refused("22-1025-spread-areas", 2, 0x800, "1,025 such areas, every 256th of 0x800 bytes, then each named", ALONE.plus(
+    *[parameter_area(area=area, bytes=0x1000 if number % 256 else 0x800) for number, area in enumerate(SPREAD[:1025])], *[vp_count(area=area) for area in SPREAD[:1025]]
+))
 accepted("2048-areas", "1 0 2048", "1,024 areas with indexes below 1,024, then 1,024 from there on", ALONE.plus(*allocated(range(2048))))
 accepted("2049-areas", "1 0 2049", "one area more", ALONE.plus(*allocated(range(2049))))
 accepted("3274-areas", "1 0 3274", "as many areas as 65,536 bytes can have, all of one root", ALONE.plus(*allocated(CROWDED[:3274])))
@@ -685,8 +720,12 @@ SHOWN = [
     Shown("03-8193-directives", "03-8193-directives", "8,193 directive rows, of at most 8,192"),
     Shown("04-kind-0", "04-kind-0", "a platform row of kind 0"),
     Shown("05-vtl-3", "05-vtl-18", "a region of VTL 3, of at most 2"),
+    Shown("report-5-first", "05-before-08", "a platform with two mask bits, and in row 3 a VTL of 3: nothing is reported of a sheet that can't be read; 5 comes before 37",
+          "report lent 0", "refused 5 row 3 detail 0"),
     Shown("06-one-byte-more", "06-byte", "a byte behind the last body"),
     Shown("07-page-size-8192", "07-8192", "page size 8192; the detail is the page size"),
+    Shown("report-7-first", "07-before-08", "page size 8192, and a platform with two mask bits: nor is it of one of another page size",
+          "report lent 24", "refused 7 row 0 detail 8192"),
     Shown("08-platform-mask-3", "08-mask-3", "a platform with two mask bits"),
     Shown("09-highest-vtl-1", "09-highest-vtl-1", "a platform of highest VTL 1: 0 and 2 are known"),
     Shown("10-version-2", "10-type-0", "version 2 of a NATIVE platform: 1 is known"),
@@ -720,6 +759,7 @@ SHOWN = [
     Shown("36-region-1", "b", "region 1 where there is one region: numbers count from 0",
           "relocation_base_valid mask 1 region 1 base 1048576", "refused 36 row 0 detail 0"),
     Shown("37-seven-words", "b", "seven words lent, where a region takes eight", "relocations mask 1 lent 56", "refused 37 row 0 detail 0"),
+    Shown("report-37", "b", "two words and seven bytes lent, where each of three rows takes a word", "report lent 23", "refused 37 row 0 detail 0"),
     Shown("38-bit-without-context", "mask-3", "image B with region mask 3, a context of mask 1; the detail is the mask bit",
           "strict_verdict", "refused 38 row 2 detail 2"),
     Shown("38-first-of-two-regions", "masks-1-13-3", "regions of masks 1, 13 and 3, a context of mask 1: 4 and 8 of the second have none, and 2 of the third",
@@ -749,21 +789,52 @@ SHOWN = [
           "relocation_base_range mask 1 region 0 lowest 0 highest 2093056", "answered 3"),
     Shown("range-3-to-2-64", "maximum-top", "0xFFFFFFFFFFFFD000 to 2^64 - 1: base and size add up to 2^64 - 0x1000, the maximum, then to 2^64 and to 2^64 + 0x1000",
           "relocation_base_range mask 1 region 0 lowest 18446744073709539328 highest 18446744073709551615", "answered 3"),
+    Shown("report-accepted", "b", "image B: nothing is wrong", "report lent 24", "reported 0 of 3"),
+    Shown("report-no-rows", "15-no-rows", "a sheet without rows needs no word", "report lent 0", "reported 0 of 0, 15 row 0"),
+    Shown("report-many-faults", "08-many-faults", "faults in all three lists, and rows between them that are in order", "report lent 160",
+          "reported 11 of 20, 8 row 2, 10 row 3, 14 row 5, 29 row 7, 19 row 9, 21 row 11, 30 row 14, 22 row 15, 32 row 16, 33 row 18, 24 row 20, 34 row 0"),
+    Shown("report-every-row", "08-every-row", "all rows are faulty, so that no platform is left", "report lent 24",
+          "reported 3 of 3, 8 row 1, 19 row 2, 24 row 3, 15 row 0"),
+    Shown("report-no-platform", "15-faulty-rows", "no platform row: the others are reported all the same, and no bit of a CcaPolicy has a CCA platform", "report lent 32",
+          "reported 2 of 4, 25 row 2, 19 row 3, 15 row 0"),
+    Shown("report-type-of-a-faulty-platform", "10-type-again", "row 1 is faulty, so that row 2 may have its type; row 3 may not have that of row 2", "report lent 40",
+          "reported 2 of 5, 10 row 1, 14 row 3"),
+    Shown("report-last-platform-of-a-mask", "10-last-of-a-mask",
+          "the CcaPolicy of mask 1 is in order, since the platform of another type behind the CCA platform is faulty; that of mask 2 is not, since its CCA platform is", "report lent 56",
+          "reported 3 of 7, 10 row 2, 14 row 3, 25 row 6"),
+    Shown("report-third-page-table", "26-masks-1-3-2", "the third page-table region shares a bit and its place with the second alone, which is faulty", "report lent 48",
+          "reported 1 of 6, 26 row 4"),
+    Shown("report-bits-of-faulty-page-tables", "27-five-page-tables", "three page-table regions refused by 27 to 29 leave their bit free for the fourth, and that leaves none for the fifth",
+          "report lent 64", "reported 4 of 8, 27 row 3, 28 row 4, 29 row 5, 26 row 7"),
+    Shown("report-bits-of-a-faulty-region", "29-masks-2-7-1-4", "a region of mask 7 overlaps one of mask 2, and leaves no range under its other bits for those of masks 1 and 4",
+          "report lent 48", "reported 1 of 6, 29 row 3"),
+    Shown("report-area-of-a-faulty-row", "22-area-allocated-again", "the areas of two faulty rows are not allocated: a use and an insert of them are faulty, and one may be allocated",
+          "report lent 80", "reported 4 of 10, 22 row 4, 32 row 5, 31 row 6, 32 row 7"),
+    Shown("report-1025-areas", "22-1025-spread-areas", "1,025 areas, five of them of faulty rows, and a use of each", "report lent 16408",
+          "reported 10 of 2051, 22 row 2, 22 row 258, 22 row 514, 22 row 770, 22 row 1026, 32 row 1027, 32 row 1283, 32 row 1539, 32 row 1795, 32 row 2051"),
+    Shown("report-insert-again", "33-inserted-again", "an insert in a page-table region leaves its area as it was: it may be named and inserted, and then not once more", "report lent 72",
+          "reported 2 of 9, 33 row 6, 32 row 9"),
+    Shown("report-34", "24-only-context", "the region's only context is faulty", "report lent 32", "reported 2 of 4, 24 row 3, 30 row 4, 34 row 0"),
+    Shown("report-34-vp-1", "21-vp-1", "a region of VP index 1 is no faulty row", "report lent 32", "reported 1 of 4, 21 row 4, 34 row 0"),
+    Shown("report-faulty-region-without-context", "29-without-context", "a region that is faulty needs no context", "report lent 32", "reported 1 of 4, 29 row 3"),
     Shown("strict-two-contexts", "mask-3-two-contexts", "a region of mask 3, contexts of masks 1 and 2", "strict_verdict", "accepted 1 1 2"),
 ]
 
 FOLDER = REPOSITORY / "samples"
 README = """# Sample sheets
 
-One sheet for each refusal, some that are accepted, some for whose region a base or a range of bases is proposed, and some for the strict verdict. `admit` answers the verdict:
+One sheet for each refusal, some that are accepted, some for whose region a base or a range of bases is proposed, some for the strict verdict, and some with several faults for the report. `admit` answers the
+verdict:
 
     rt check admit && target/bin/admit < samples/19-alignment-zero.sheet
 
 It takes up to 65,536 bytes and refuses by 3 what is longer: `accepted-largest-lists`, `accepted-6000-pages`, `accepted-8192-directives` and `03-8193-directives`, whose answers beside them are those of the library's
 call and of the examples in Rust and in C. The verdict accepts 35 to 38 and 50; it is the call beside them that is refused (`lent` is in bytes). It accepts the sheets `base-..` and `range-..` too. The call
 beside them checks a base or a range, and `answered` stands in front of the number of its answer. Of a base: 1 valid, 2 unaligned, 3 below the minimum, 4 above the maximum, the first that applies. Of a range: 1 always,
-2 never, 3 sometimes. `strict_verdict` asks for a context for each bit of a region's mask besides; the examples make it with `--strict`. `docs/SHEET.md` says how a sheet is written, when a base is valid and what is said
-of a range, `docs/REFUSALS.md` what each refusal means and how to mend it. `tools/sheets.py --samples` writes this folder, and `tools/sheets.py --check` holds it to the samples and the lines of its list.
+2 never, 3 sometimes. `strict_verdict` asks for a context for each bit of a region's mask besides; the examples make it with `--strict`. `report` tells of all faulty rows: `reported 2 of 5` says how many rows are
+faulty, and of how many, and behind it stands the refusal of each with its row; 15 and 34, which a report tells of the sheet as a whole, have row 0. The example `report` of the Rust crate puts it into words. Of what it
+reports the first is the verdict's refusal, but in `report-no-platform`, where that is 15. `docs/SHEET.md` says how a sheet is written, when a base is valid, what is said
+of a range and what is reported, `docs/REFUSALS.md` what each refusal means and how to mend it. `tools/sheets.py --samples` writes this folder, and `tools/sheets.py --check` holds it to the samples and the lines of its list.
 
 | file | call | answer | what it shows |
 |---|---|---|---|
@@ -793,6 +864,47 @@ def wrong_lines():
             yield f"{shown.file}: {shown.call}: {shown.answer()}; the model says {said}"
 
 
+# A platform that takes part in no other row's test: no bit is CCA's by it.
+OTHER = platform(type=1)
+
+
+def by_verdicts(s):
+    """The report on a readable sheet by verdicts alone: a row's word is what is said of it in the sheet of the earlier rows whose word is 0, and this row. Where no platform is
+    among these, another stands in for it, so that 15 does not come first."""
+    arch, lists = model.read(s)
+    kept, faults = V2.head(arch=arch, lists=((), (), ())), []
+    for number, rows in enumerate(lists):
+        if number == 1:
+            no_platform = ["15 row 0"] * (not kept.lists[0])
+            kept = kept.platforms(*kept.lists[0] or (OTHER,))
+        for row, kind, body in rows:
+            tried = kept.plus(Row(kind, body))
+            said, *numbers = model.line(bytes(tried)).split()
+            if said == "refused" and int(numbers[2]) == sum(map(len, tried.lists)):
+                faults.append(f"{numbers[0]} row {row}")
+            else:
+                kept = tried
+    no_context = ["34 row 0"] * (model.line(bytes(kept)) == "refused 34 row 0 detail 0")
+    return ", ".join([f"reported {len(faults)} of {sum(map(len, lists))}", *faults, *no_platform, *no_context])
+
+
+def wrong_reports():
+    """A message for each report of the model that is not what its verdicts give: of the same sheet, and, where it has few rows, of those made of its rows."""
+    for sample in SAMPLES:
+        s = sample.bytes()
+        reported = model.line(s, "report")
+        first = reported
+        if reported.startswith("reported"):
+            _, lists = model.read(s)
+            # The first of all that is reported is the verdict's refusal, unless there is no platform row.
+            faults = reported.split(", ")[1:] if lists[0] else ["15 row 0"]
+            first = f"refused {faults[0]} detail " if faults else "accepted "
+            if sum(map(len, lists)) <= 100 and reported != by_verdicts(s):
+                yield f"{sample.name}: the model reports {reported}; by its verdicts {by_verdicts(s)}"
+        if not sample.line.startswith(first):
+            yield f"{sample.name}: {sample.line}; the model reports {reported}"
+
+
 def wrong_names():
     """A message for each name that is given twice, and for each refusal that the folder does not show."""
     for names in [sample.name for sample in SAMPLES], [shown.file for shown in SHOWN]:
@@ -812,7 +924,7 @@ def wrong_files(folder, files, parts, mode):
 
 
 def check():
-    wrong = [*wrong_lines(), *wrong_names()]
+    wrong = [*wrong_lines(), *wrong_reports(), *wrong_names()]
     wrong += wrong_files(CRATE, gate_files(), ("data/*", "args", "stdout"), "--gate")
     wrong += wrong_files(FOLDER, sample_files(), ("*",), "--samples")
     for message in wrong:

@@ -21,12 +21,21 @@ fn samples() -> Vec<Sample> {
     rows.map(|mut row| Sample { file: row.remove(0), call: row.remove(0), answer: row.remove(0) }).collect()
 }
 
+/// How many rows of how many are faulty, and each fault with its row; 15 and 34 have row 0.
+fn reported_line(reported: Reported, words: &[u8]) -> String {
+    let numbers = words.chunks_exact(8).map(|word| u64::from_le_bytes(word.try_into().unwrap()));
+    let rows = (1..).zip(numbers).filter(|&(_, number)| number != 0).map(|(row, number)| format!(", {number} row {row}"));
+    let told = [(15, reported.no_platform), (34, reported.no_context)].into_iter().filter(|&(_, told)| told);
+    let told = told.map(|(number, _)| format!(", {number} row 0"));
+    format!("reported {} of {}{}", reported.faulty_rows, reported.rows, rows.chain(told).collect::<String>())
+}
+
 impl Sample {
     fn sheet(&self) -> Vec<u8> {
         fs::read(Path::new(FOLDER).join(&self.file)).unwrap()
     }
 
-    /// The call's answer: a line of an accepted verdict, for other calls that are answered a line with the number of a check of a base or of
+    /// The call's answer: a line of an accepted verdict or of a report, for other calls that are answered a line with the number of a check of a base or of
     /// a range, or the refusal.
     fn made(&self) -> Result<String, Refusal> {
         let sheet = self.sheet();
@@ -35,6 +44,10 @@ impl Sample {
         match words[..] {
             ["verdict"] => verdict(&sheet).map(|counts| counts.line()),
             ["strict_verdict"] => strict_verdict(&sheet).map(|counts| counts.line()),
+            ["report", "lent", lent] => {
+                let mut words = vec![0; number(lent) as usize];
+                report_into(&sheet, &mut words).map(|reported| reported_line(reported, &words))
+            }
             ["relocations", "mask", mask, "lent", lent] => {
                 let mut lent = vec![0; number(lent) as usize];
                 relocations_into(&sheet, number(mask) as u32, &mut lent).map(|_| "answered".to_string())
