@@ -1,6 +1,6 @@
 /* Holds libigvm.a to what include/igvm.h says beside the proved contracts: calls and their siblings agree, on several threads at once, within IGVM_STACK_BYTES of
- * stack, the strict verdict is the verdict but for a bit of a region's mask that no context has, a base check answers one of the four, a range of bases one of the three
- * and as the base check at its ends, and lent bytes that overlap the sheet get what others get. The arguments are files of sheets. It writes the stack that each call
+ * stack, the strict verdict is the verdict but for a bit of a region's mask that no context has, of all that a report tells the first is the verdict's refusal, a base check
+ * answers one of the four, a range of bases one of the three and as the base check at its ends, and lent bytes that overlap the sheet get what others get, but in a report. The arguments are files of sheets. It writes the stack that each call
  * takes on four images made here; the last line is `N sheets, S bytes of stack`, the most that any call took. */
 #define _GNU_SOURCE
 #include <pthread.h>
@@ -14,6 +14,7 @@
 #define THREADS 4
 #define STACK ((size_t)1 << 20)
 #define WORDS ((size_t)IGVM_REGION_BYTES * IGVM_MAX_INITIALIZATION_ROWS)
+#define ROW_WORDS ((size_t)8 * IGVM_MAX_ROWS)
 #define PAINT 0xA5
 
 /* On an image that names few areas every call takes less stack than this. */
@@ -100,6 +101,70 @@ static void verdicts(const char *file, const uint8_t *sheet, size_t n, uint8_t *
     hold(memcmp(strict, each, sizeof each) == 0, file, "the strict verdict is neither the verdict nor 38 of the first bit without a context");
 }
 
+static void hold_painted(const char *file, const uint8_t *bytes, size_t from, size_t to, const char *what) {
+    for (size_t i = from; i < to; i++) hold(bytes[i] == PAINT, file, what);
+}
+
+/* The verdict of a sheet whose report has these numbers and words: number and row. */
+static void first_reported(const uint8_t *sheet, const uint64_t *each, const uint8_t *words, uint64_t *number, uint64_t *row) {
+    *number = each[IGVM_NO_PLATFORM]  ? (uint64_t)IGVM_ERROR_NO_PLATFORM_HEADERS
+              : each[IGVM_NO_CONTEXT] ? (uint64_t)IGVM_ERROR_NO_MATCHING_VP_CONTEXT
+                                      : (uint64_t)IGVM_ACCEPTED;
+    *row = 0;
+    /* Without a platform row the verdict is 15. */
+    if (field(sheet, 8, 2) == 0) return;
+    for (uint64_t k = 0; k < each[IGVM_ROWS] && *row == 0; k++)
+        if (word(words, k) != 0) *number = word(words, k), *row = k + 1;
+}
+
+/* A report that is refused by one of 1 to 7 is as the verdict is, and one that is not goes together with it. With a byte less than its words it is refused by 37. Bytes
+ * behind the last row's word, and all of them in a refusal, are as they were. The two lent slices have ROW_WORDS and one byte more. */
+static void report(const char *file, const uint8_t *sheet, size_t n, uint8_t *words, uint8_t *again) {
+    uint8_t numbers[8 * IGVM_REPORT_NUMBERS + 1];
+    uint64_t each[IGVM_REPORT_NUMBERS], verdict[3], faulty = 0, number, row;
+    memset(numbers, PAINT, sizeof numbers);
+    memset(words, PAINT, ROW_WORDS + 1);
+    memset(again, PAINT, ROW_WORDS + 1);
+    for (uint32_t k = 0; k < 3; k++) verdict[k] = igvm_verdict(sheet, n, k);
+    for (uint32_t k = 0; k < IGVM_REPORT_NUMBERS; k++) each[k] = igvm_report(sheet, n, words, ROW_WORDS + 1, k);
+    hold(igvm_report(sheet, n, words, ROW_WORDS + 1, IGVM_REPORT_NUMBERS) == 0, file, "a report has a number too many");
+    hold(igvm_report_numbers(sheet, n, again, ROW_WORDS + 1, numbers, 8 * IGVM_REPORT_NUMBERS - 1) == each[IGVM_NUMBER], file, "the sibling returns another number");
+    hold_painted(file, numbers, 0, sizeof numbers, "the sibling puts numbers where too few words are lent");
+    hold(memcmp(words, again, ROW_WORDS + 1) == 0, file, "the sibling puts other words where it puts no numbers");
+    memset(again, PAINT, ROW_WORDS + 1);
+    hold_numbers(file, numbers, IGVM_REPORT_NUMBERS, igvm_report_numbers(sheet, n, again, ROW_WORDS + 1, numbers, sizeof numbers), each);
+    hold(memcmp(words, again, ROW_WORDS + 1) == 0, file, "the sibling puts other words");
+    hold_painted(file, words, 8 * each[IGVM_ROWS], ROW_WORDS + 1, "a report changes bytes behind the last row's word");
+    if (verdict[IGVM_NUMBER] >= IGVM_ERROR_SHEET_ENDS_EARLY && verdict[IGVM_NUMBER] <= IGVM_ERROR_UNSUPPORTED_PAGE_SIZE) {
+        uint64_t refusal[IGVM_REPORT_NUMBERS] = {verdict[0], verdict[1], verdict[2]};
+        hold(memcmp(each, refusal, sizeof each) == 0, file, "a report is refused otherwise than the verdict");
+        return;
+    }
+    hold(each[IGVM_NUMBER] == 0 && each[IGVM_ROW] == 0 && each[IGVM_DETAIL] == 0, file, "a report is refused, and its sheet can be read");
+    hold(each[IGVM_ROWS] == field(sheet, 8, 2) + field(sheet, 10, 2) + field(sheet, 12, 2), file, "a report has another number of rows than the head");
+    for (uint64_t k = 0; k < each[IGVM_ROWS]; k++) {
+        uint64_t w = word(words, k);
+        faulty += w != 0;
+        hold(w == 0 || (w >= IGVM_ERROR_INVALID_COMPATIBILITY_MASK && w <= IGVM_ERROR_PARAMETER_INSERT_INSIDE_PAGE_TABLE_REGION && w != IGVM_ERROR_NO_PLATFORM_HEADERS), file,
+             "a word is no refusal of a row");
+    }
+    hold(each[IGVM_FAULTY_ROWS] == faulty, file, "a report has another number of faulty rows than words other than 0");
+    hold(each[IGVM_NO_PLATFORM] <= 1 && each[IGVM_NO_CONTEXT] <= 1, file, "whether 15 or 34 is told is neither 0 nor 1");
+    hold(each[IGVM_NO_PLATFORM] || field(sheet, 8, 2) != 0, file, "15 is not told of a sheet without platform rows");
+    first_reported(sheet, each, words, &number, &row);
+    hold(verdict[IGVM_NUMBER] == number && verdict[IGVM_ROW] == row, file, "the first that is reported is not the verdict's refusal");
+    size_t enough = 8 * each[IGVM_ROWS];
+    memset(again, PAINT, ROW_WORDS + 1);
+    hold(igvm_report(sheet, n, enough ? again : NULL, enough, IGVM_FAULTY_ROWS) == faulty && memcmp(words, again, ROW_WORDS + 1) == 0, file, "another report in just enough words");
+    if (enough == 0) return;
+    memset(again, PAINT, ROW_WORDS + 1);
+    uint64_t refusal[IGVM_REPORT_NUMBERS] = {IGVM_ERROR_TOO_FEW_WORDS_LENT};
+    for (uint32_t k = 0; k < IGVM_REPORT_NUMBERS; k++) each[k] = igvm_report(sheet, n, again, enough - 1, k);
+    hold_numbers(file, numbers, IGVM_REPORT_NUMBERS, igvm_report_numbers(sheet, n, again, enough - 1, numbers, sizeof numbers), each);
+    hold(memcmp(each, refusal, sizeof each) == 0, file, "too few words are not refused by 37 alone");
+    hold_painted(file, again, 0, ROW_WORDS + 1, "a report puts words where too few are lent");
+}
+
 /* The bases from lowest to highest, for a region that the mask has. Returns the answer, 0 where the lowest is above the highest. */
 static uint64_t range(const char *file, const uint8_t *sheet, size_t n, uint32_t mask, uint64_t region, uint64_t lowest, uint64_t highest) {
     uint8_t numbers[8 * IGVM_CHECK_NUMBERS + 1];
@@ -182,33 +247,37 @@ static void relocations(const char *file, const uint8_t *sheet, size_t n, uint32
 static void *all_sheets(void *nothing) {
     for (int i = 0; i < count; i++) {
         size_t n;
-        uint8_t *sheet = read_sheet(files[i], &n), *overlapping = malloc(IGVM_MAX_SHEET_BYTES + 1 + WORDS);
-        hold(overlapping != NULL, files[i], "no memory");
+        uint8_t *sheet = read_sheet(files[i], &n), *overlapping = malloc(IGVM_MAX_SHEET_BYTES + 1 + WORDS), *words = malloc(2 * (ROW_WORDS + 1));
+        hold(overlapping && words, files[i], "no memory");
         verdicts(files[i], sheet, n, overlapping);
+        report(files[i], sheet, n, words, words + ROW_WORDS + 1);
         for (uint32_t mask = 0; mask < 4; mask++) relocations(files[i], sheet, n, mask, overlapping);
         free(sheet);
         free(overlapping);
+        free(words);
     }
     return nothing;
 }
 
 /* Each call on a sheet, with as little of the stack as can be in use besides, and the two on a region's words. */
-static uint8_t numbers_lent[8 * IGVM_RELOCATIONS_NUMBERS], words_lent[WORDS];
+static uint8_t numbers_lent[8 * IGVM_RELOCATIONS_NUMBERS], words_lent[ROW_WORDS];
 
 static void call_0(const uint8_t *s, size_t n) { igvm_verdict(s, n, 0); }
 static void call_1(const uint8_t *s, size_t n) { igvm_verdict_numbers(s, n, numbers_lent, sizeof numbers_lent); }
 static void call_2(const uint8_t *s, size_t n) { igvm_strict_verdict(s, n, 0); }
 static void call_3(const uint8_t *s, size_t n) { igvm_strict_verdict_numbers(s, n, numbers_lent, sizeof numbers_lent); }
-static void call_4(const uint8_t *s, size_t n) { igvm_relocations(s, n, 1, words_lent, sizeof words_lent, 0); }
-static void call_5(const uint8_t *s, size_t n) { igvm_relocations_numbers(s, n, 1, words_lent, sizeof words_lent, numbers_lent, sizeof numbers_lent); }
-static void call_6(const uint8_t *s, size_t n) { igvm_relocation_base_valid(s, n, 1, 0, 0, 0); }
-static void call_7(const uint8_t *s, size_t n) { igvm_relocation_base_valid_numbers(s, n, 1, 0, 0, numbers_lent, sizeof numbers_lent); }
-static void call_8(const uint8_t *s, size_t n) { igvm_relocation_base_range(s, n, 1, 0, 0, UINT64_MAX, 0); }
-static void call_9(const uint8_t *s, size_t n) { igvm_relocation_base_range_numbers(s, n, 1, 0, 0, UINT64_MAX, numbers_lent, sizeof numbers_lent); }
-static void call_10(const uint8_t *s, size_t n) { igvm_contains(s, n, 1, 0, 0, 0); }
-static void call_11(const uint8_t *s, size_t n) { igvm_contains_numbers(s, n, 1, 0, 0, numbers_lent, sizeof numbers_lent); }
-static void call_12(const uint8_t *s, size_t n) { igvm_region_base_valid(s, n, 0); }
-static void call_13(const uint8_t *s, size_t n) { igvm_region_contains(s, n, 0); }
+static void call_4(const uint8_t *s, size_t n) { igvm_report(s, n, words_lent, sizeof words_lent, 0); }
+static void call_5(const uint8_t *s, size_t n) { igvm_report_numbers(s, n, words_lent, sizeof words_lent, numbers_lent, sizeof numbers_lent); }
+static void call_6(const uint8_t *s, size_t n) { igvm_relocations(s, n, 1, words_lent, sizeof words_lent, 0); }
+static void call_7(const uint8_t *s, size_t n) { igvm_relocations_numbers(s, n, 1, words_lent, sizeof words_lent, numbers_lent, sizeof numbers_lent); }
+static void call_8(const uint8_t *s, size_t n) { igvm_relocation_base_valid(s, n, 1, 0, 0, 0); }
+static void call_9(const uint8_t *s, size_t n) { igvm_relocation_base_valid_numbers(s, n, 1, 0, 0, numbers_lent, sizeof numbers_lent); }
+static void call_10(const uint8_t *s, size_t n) { igvm_relocation_base_range(s, n, 1, 0, 0, UINT64_MAX, 0); }
+static void call_11(const uint8_t *s, size_t n) { igvm_relocation_base_range_numbers(s, n, 1, 0, 0, UINT64_MAX, numbers_lent, sizeof numbers_lent); }
+static void call_12(const uint8_t *s, size_t n) { igvm_contains(s, n, 1, 0, 0, 0); }
+static void call_13(const uint8_t *s, size_t n) { igvm_contains_numbers(s, n, 1, 0, 0, numbers_lent, sizeof numbers_lent); }
+static void call_14(const uint8_t *s, size_t n) { igvm_region_base_valid(s, n, 0); }
+static void call_15(const uint8_t *s, size_t n) { igvm_region_contains(s, n, 0); }
 
 static const struct {
     const char *name;
@@ -218,16 +287,18 @@ static const struct {
     {"igvm_verdict_numbers", call_1},
     {"igvm_strict_verdict", call_2},
     {"igvm_strict_verdict_numbers", call_3},
-    {"igvm_relocations", call_4},
-    {"igvm_relocations_numbers", call_5},
-    {"igvm_relocation_base_valid", call_6},
-    {"igvm_relocation_base_valid_numbers", call_7},
-    {"igvm_relocation_base_range", call_8},
-    {"igvm_relocation_base_range_numbers", call_9},
-    {"igvm_contains", call_10},
-    {"igvm_contains_numbers", call_11},
-    {"igvm_region_base_valid", call_12},
-    {"igvm_region_contains", call_13},
+    {"igvm_report", call_4},
+    {"igvm_report_numbers", call_5},
+    {"igvm_relocations", call_6},
+    {"igvm_relocations_numbers", call_7},
+    {"igvm_relocation_base_valid", call_8},
+    {"igvm_relocation_base_valid_numbers", call_9},
+    {"igvm_relocation_base_range", call_10},
+    {"igvm_relocation_base_range_numbers", call_11},
+    {"igvm_contains", call_12},
+    {"igvm_contains_numbers", call_13},
+    {"igvm_region_base_valid", call_14},
+    {"igvm_region_contains", call_15},
 };
 #define CALLS (sizeof calls / sizeof *calls)
 
