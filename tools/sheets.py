@@ -551,6 +551,8 @@ refused("22-area-allocated-again", 4, 0x800, "area 0 of 0x800 bytes, named; area
     parameter_area(bytes=0x800), vp_count(), parameter_area(bytes=0, area=1, tail=b"x"), parameter_insert(area=1), parameter_area(), vp_count(), parameter_insert(),
 ))
 refused("24-only-context", 3, 48, "the region's only context is of kind 48; a page of type 4", B.directives(aarch64_vbs(), page_data(type=4)))
+refused("32-again-and-named", 6, 0, "area 0 inserted, allocated again, named, and inserted again",
+        AREA.plus(parameter_insert(), parameter_area(), vp_count(), parameter_insert(gpa=0x1000)))
 refused("33-inserted-again", 6, 0, "area 0 inserted in the page table, named, inserted elsewhere, and inserted once more",
         IN_TABLE.plus(parameter_insert(gpa=0x300000), vp_count(), parameter_insert(), parameter_insert(gpa=0x1000)))
 refused("08-many-faults", 2, 0, "faults in all three lists, and rows between them that are in order", B.platforms(
@@ -812,6 +814,8 @@ SHOWN = [
           "report lent 80", "reported 4 of 10, 22 row 4, 32 row 5, 31 row 6, 32 row 7"),
     Shown("report-1025-areas", "22-1025-spread-areas", "1,025 areas, five of them of faulty rows, and a use of each", "report lent 16408",
           "reported 10 of 2051, 22 row 2, 22 row 258, 22 row 514, 22 row 770, 22 row 1026, 32 row 1027, 32 row 1283, 32 row 1539, 32 row 1795, 32 row 2051"),
+    Shown("report-allocated-after-insert", "32-again-and-named", "a row that allocates an inserted area again is faulty, and leaves it inserted", "report lent 64",
+          "reported 3 of 8, 32 row 6, 32 row 7, 32 row 8"),
     Shown("report-insert-again", "33-inserted-again", "an insert in a page-table region leaves its area as it was: it may be named and inserted, and then not once more", "report lent 72",
           "reported 2 of 9, 33 row 6, 32 row 9"),
     Shown("report-34", "24-only-context", "the region's only context is faulty", "report lent 32", "reported 2 of 4, 24 row 3, 30 row 4, 34 row 0"),

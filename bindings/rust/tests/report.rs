@@ -55,6 +55,7 @@ const STORED: &[Stored] = &[
         false,
         false,
     ),
+    ("report-allocated-after-insert", 8, &[(6, 32), (7, 32), (8, 32)], false, false),
     ("report-insert-again", 9, &[(6, 33), (9, 32)], false, false),
     ("report-34", 4, &[(3, 24), (4, 30)], false, true),
     ("report-34-vp-1", 4, &[(4, 21)], false, true),
