@@ -1,5 +1,6 @@
 #!/usr/bin/env python3
-"""Holds the lines of `compare emit`, read from standard input, against tools/model.py: each a sheet in hexadecimal digits, its line by the verdict and by the strict one."""
+"""Holds the lines of `compare emit`, read from standard input, against tools/model.py: each a sheet in hexadecimal digits, its line by the verdict, by the strict one and by
+the report. A report's line has no `; `: `reported 2 of 5, 20 row 2, 32 row 4, 15 row 0, 34 row 0`, or it is that of a refusal; as many words are lent as it takes."""
 
 import sys
 from pathlib import Path
@@ -10,9 +11,9 @@ import model
 count = 0
 for text in sys.stdin:
     digits, _, lines = text.rstrip("\n").partition(" ")
-    for call, line in zip(("verdict", "strict_verdict"), lines.split("; "), strict=True):
+    for call, line in zip(("verdict", "strict_verdict", "report"), lines.split("; "), strict=True):
         said = model.line(bytes.fromhex(digits), call)
         if said != line:
             sys.exit(f"DIFFERENCE: {call}: document 01 in Rust says {line}; tools/model.py says {said}\n  sheet: {digits}")
     count += 1
-print(f"tools/model.py: {count} sheets agree with document 01 in Rust, by the verdict and by the strict one")
+print(f"tools/model.py: {count} sheets agree with document 01 in Rust, by the verdict, by the strict one and by the report")
