@@ -1,7 +1,7 @@
 #!/usr/bin/env python3
 """Names and numbers of refusals: tools/model.py, include/igvm.h, the Rust crate, docs/REFUSALS.md and samples must agree; those of the answers of
-base checks and of ranges: library, header, crate, README.md, docs/SHEET.md and samples; the limits of include/igvm.h are those of SheetHead; and
-header, crate and docs/CHANGELOG.md have one version."""
+base checks and of ranges: library, header, crate, README.md, docs/SHEET.md and samples; the calls: header, crate and README.md; the numbers of a report:
+header, crate, README.md and docs/SHEET.md; the limits of include/igvm.h are those of SheetHead; and header, crate and docs/CHANGELOG.md have one version."""
 import pathlib
 import re
 import sys
@@ -71,10 +71,42 @@ checks = answers_of("the base check", "BaseCheck", "addresses", "BASE", "igvm_re
 ranges = answers_of("the range check", "BaseRange", "base_ranges", "RANGE", "igvm_relocation_base_range",
                     "| number 3 | answer | when, of the multiples in the range |", "range")
 
+# The calls. README.md has those with a sibling by one line, and says of them that there are so many.
+declared = set(re.findall(r"^uint64_t (igvm_\w+)\(", header, re.M))
+if declared != set(re.findall(r"pub fn (igvm_\w+)\(", read("bindings/rust/src/calls.rs"))):
+    wrong.append("the calls that the crate links are not those of include/igvm.h")
+listed = set(re.findall(r"^\| `(igvm_\w+)` \|", read("README.md"), re.M))
+siblings = {name for name in listed if f"{name}_numbers" in declared}
+if declared != listed | {f"{name}_numbers" for name in siblings}:
+    wrong.append("the calls in the table of README.md are not those of include/igvm.h")
+count = {5: "five", 6: "six", 7: "seven", 8: "eight"}[len(siblings)]
+if f"\n| each of the {count} with `_numbers` |" not in read("README.md"):
+    wrong.append(f"README.md does not say that {count} calls have a sibling")
+
+# The numbers of a report: no_platform of the crate is NO_PLATFORM in the header, and "no platform" on the pages.
+report = {int(n): name for name, n in re.findall(r"IGVM_(\w+) = (\d)", re.search(r"enum \{ (IGVM_NO_PLATFORM = .*), IGVM_REPORT_NUMBERS = 7 \};", header).group(1))}
+crate = read("bindings/rust/src/report.rs")
+fields = re.findall(r"^    pub (\w+): ", re.search(r"^pub struct Reported \{\n(.*?)^\}", crate, re.M | re.S).group(1), re.M)
+if list(report) != [3, 4, 5, 6] or sorted(report.values()) != sorted(name.upper() for name in fields):
+    wrong.append("the numbers of a report in include/igvm.h are not the fields of the crate's Reported")
+texts = {n: name.lower().replace("_", " ") for n, name in report.items()}
+if f"let [_, _, _, {', '.join(name.lower() for name in report.values())}] = " not in crate:
+    wrong.append("the crate reads the numbers of a report in another order than include/igvm.h has them")
+in_readme = re.search(r"^\| `igvm_report` \| 0 to 2; (.*?)\. ", read("README.md"), re.M).group(1)
+if texts != {int(n): text.strip() for n, text in re.findall(r"(\d) ([a-z][a-z ]*)", re.sub(r"\([^)]*\)", "", in_readme))}:
+    wrong.append("the numbers of a report in the table of README.md are not those of include/igvm.h")
+in_page = read("docs/SHEET.md").partition("\n## Words of a report\n")[2].partition("\n## ")[0]
+if texts != {int(n): text for n, text in re.findall(r"^\| (\d) \| ([a-z ]+)[:|,]", in_page, re.M)}:
+    wrong.append("the numbers of a report in docs/SHEET.md are not those of include/igvm.h")
+
 limits = dict(re.findall(r"pub const (\w+): usize = (\d+);", read("crates/sheet/src/lib.rt")))
 for name in ("PLATFORM_ROWS", "INITIALIZATION_ROWS", "DIRECTIVE_ROWS", "SHEET_BYTES"):
     if f"IGVM_MAX_{name} = {limits.get(name)}," not in header:
         wrong.append(f"IGVM_MAX_{name} of include/igvm.h is not SheetHead::{name}")
+most_rows = sum(int(limits[f"{name}_ROWS"]) for name in ("PLATFORM", "INITIALIZATION", "DIRECTIVE"))
+for path in ("bindings/rust/src/report.rs", "bindings/rust/src/refusal.rs", "docs/REFUSALS.md", "docs/SHEET.md"):
+    if f"{8 * most_rows:,}" not in read(path):
+        wrong.append(f"{path} does not say that {8 * most_rows:,} bytes are enough for a report")
 version = ".".join(re.findall(r"IGVM_VERSION_\w+ = (\d+)", header))
 if f'\nversion = "{version}"\n' not in read("bindings/rust/Cargo.toml"):
     wrong.append(f"{version} of include/igvm.h is not the crate's version")
@@ -84,4 +116,5 @@ for line in wrong:
     print(line)
 if wrong:
     sys.exit(1)
-print(f"{len(rust)} refusals, {checks} answers of the base check, {ranges} of the range check, {len(limits)} limits, version {version}: header, crate, pages and samples agree")
+print(f"{len(rust)} refusals, {len(declared)} calls, {checks} answers of the base check, {ranges} of the range check, {len(report)} numbers of a report, {len(limits)} limits, "
+      f"version {version}: header, crate, pages and samples agree")
