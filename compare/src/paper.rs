@@ -142,20 +142,25 @@ fn codes_ok(row: &Row) -> bool {
 // ---- platform rows: 8, 9, 12, 10, 11, 13, 14; then 15
 
 fn platform_rows(sheet: &Sheet) -> Checked {
-    let mut types = Vec::new();
+    let mut earlier = Vec::new();
     for row in &sheet.platforms {
-        let (mask, highest_vtl, typ) = (row.field(0, 4), row.field(4, 1), row.field(5, 1));
-        let (version, boundary) = (row.field(6, 2), row.field(8, 8));
-        refuse(mask.count_ones() != 1, 8, row.number, 0)?;
-        refuse(highest_vtl != 0 && highest_vtl != 2, 9, row.number, 0)?;
-        refuse(typ > CCA, 12, row.number, 0)?;
-        refuse(version != 1, 10, row.number, 0)?;
-        refuse(typ <= VSM_ISOLATION && boundary != 0, 11, row.number, 0)?;
-        refuse(!arch_takes(sheet.arch, typ), 13, row.number, typ)?;
-        refuse(types.contains(&typ), 14, row.number, 0)?;
-        types.push(typ);
+        platform_row(sheet.arch, row, &earlier)?;
+        earlier.push(row);
     }
     refuse(sheet.platforms.is_empty(), 15, 0, 0)
+}
+
+/// A platform row behind these.
+fn platform_row(arch: u64, row: &Row, earlier: &[&Row]) -> Checked {
+    let (mask, highest_vtl, typ) = (row.field(0, 4), row.field(4, 1), row.field(5, 1));
+    let (version, boundary) = (row.field(6, 2), row.field(8, 8));
+    refuse(mask.count_ones() != 1, 8, row.number, 0)?;
+    refuse(highest_vtl != 0 && highest_vtl != 2, 9, row.number, 0)?;
+    refuse(typ > CCA, 12, row.number, 0)?;
+    refuse(version != 1, 10, row.number, 0)?;
+    refuse(typ <= VSM_ISOLATION && boundary != 0, 11, row.number, 0)?;
+    refuse(!arch_takes(arch, typ), 13, row.number, typ)?;
+    refuse(earlier.iter().any(|other| other.field(5, 1) == typ), 14, row.number, 0)
 }
 
 /// Type 6 is of AArch64; 0 and 2 to 5 are of X64; 1 is of both.
@@ -167,9 +172,9 @@ fn arch_takes(arch: u64, typ: u64) -> bool {
     }
 }
 
-/// The type that counts for a mask: that of the last platform with it.
-fn type_of(sheet: &Sheet, mask: u64) -> Option<u64> {
-    sheet.platforms.iter().rev().find(|row| row.field(0, 4) == mask).map(|row| row.field(5, 1))
+/// The type that counts for a mask: that of the last of these platforms with it.
+fn type_of(platforms: &[&Row], mask: u64) -> Option<u64> {
+    platforms.iter().rev().find(|row| row.field(0, 4) == mask).map(|row| row.field(5, 1))
 }
 
 // ---- initialization rows
@@ -207,29 +212,33 @@ fn end(base: u64, size: u64) -> u128 {
 
 /// Gives the regions of both kinds.
 fn initialization_rows(sheet: &Sheet) -> Result<Vec<Region>, Refusal> {
+    let platforms: Vec<&Row> = sheet.platforms.iter().collect();
     let mut earlier = Vec::new();
     for row in &sheet.initializations {
-        match row.kind {
-            17 => cca_policy(sheet, row)?,
-            18 => relocatable_region(row)?,
-            19 => page_table(row, &earlier)?,
-            _ => {}
-        }
-        if let Some(region) = region_of(row) {
-            sound_region(row.number, &region, &earlier)?;
-            earlier.push(region);
-        }
+        initialization_row(sheet.arch, row, &platforms, &earlier)?;
+        earlier.extend(region_of(row));
     }
     Ok(earlier)
 }
 
+/// An initialization row behind these platforms and regions.
+fn initialization_row(arch: u64, row: &Row, platforms: &[&Row], earlier: &[Region]) -> Checked {
+    match row.kind {
+        17 => cca_policy(arch, row, platforms)?,
+        18 => relocatable_region(row)?,
+        19 => page_table(row, earlier)?,
+        _ => {}
+    }
+    region_of(row).map_or(Ok(()), |region| sound_region(row.number, &region, earlier))
+}
+
 /// Kind 17: 16, 24, 25.
-fn cca_policy(sheet: &Sheet, row: &Row) -> Checked {
+fn cca_policy(arch: u64, row: &Row, platforms: &[&Row]) -> Checked {
     let (mask, zeroes, ones) = (row.field(0, 4), row.field(4, 8), row.field(12, 8));
     refuse(zeroes & ones != 0, 16, row.number, 0)?;
-    refuse(sheet.arch != AARCH64, 24, row.number, 17)?;
+    refuse(arch != AARCH64, 24, row.number, 17)?;
     for bit in bits(mask) {
-        refuse(type_of(sheet, bit) != Some(CCA), 25, row.number, bit)?;
+        refuse(type_of(platforms, bit) != Some(CCA), 25, row.number, bit)?;
     }
     Ok(())
 }
@@ -282,12 +291,18 @@ type Areas = HashMap<u64, Area>;
 fn directive_rows(sheet: &Sheet, regions: &[Region]) -> Checked {
     let mut areas = Areas::new();
     for row in &sheet.directives {
-        aligned_directive(row)?;
-        refuse(!arch_has(sheet.arch, row.kind), 24, row.number, row.kind)?;
-        refuse(!area_rule(row, &mut areas), 32, row.number, 0)?;
-        refuse(row.kind == 50 && in_page_table(row, regions), 33, row.number, 0)?;
+        directive_row(sheet.arch, row, &areas, regions)?;
+        mark_area(row, &mut areas);
     }
     Ok(())
+}
+
+/// A directive row behind rows that have left these areas and regions.
+fn directive_row(arch: u64, row: &Row, areas: &Areas, regions: &[Region]) -> Checked {
+    aligned_directive(row)?;
+    refuse(!arch_has(arch, row.kind), 24, row.number, row.kind)?;
+    refuse(!area_rule(row, areas), 32, row.number, 0)?;
+    refuse(row.kind == 50 && in_page_table(row, regions), 33, row.number, 0)
 }
 
 /// 21 (kinds 32, 44, 45, 50, 51), 30 (32), 22 (33, 44), 31 (32, 33).
@@ -320,26 +335,35 @@ fn arch_has(arch: u64, kind: u64) -> bool {
     }
 }
 
-/// An area index may be allocated once, named while allocated, inserted once.
-fn area_rule(row: &Row, areas: &mut Areas) -> bool {
-    let index = match row.kind {
-        33 => row.field(8, 4),
-        34..=43 => row.field(0, 4),
-        50 => row.field(12, 4),
-        _ => return true,
+/// The index of the area that a row allocates, names or inserts.
+fn area_of(row: &Row) -> Option<u64> {
+    let at = match row.kind {
+        33 => 8,
+        34..=43 => 0,
+        50 => 12,
+        _ => return None,
     };
-    let area = areas.get_mut(&index);
-    match (row.kind, area) {
-        (33, None) => drop(areas.insert(index, Area { inserted: false })),
-        (33, Some(_)) | (_, None) => return false,
-        (_, Some(area)) => {
-            if area.inserted {
-                return false;
-            }
-            area.inserted = row.kind == 50;
-        }
+    Some(row.field(at, 4))
+}
+
+/// An area index may be allocated once, named while allocated, inserted once.
+fn area_rule(row: &Row, areas: &Areas) -> bool {
+    let Some(index) = area_of(row) else { return true };
+    match (row.kind, areas.get(&index)) {
+        (33, None) => true,
+        (33, Some(_)) | (_, None) => false,
+        (_, Some(area)) => !area.inserted,
     }
-    true
+}
+
+/// What a row leaves of its area where it has no fault.
+fn mark_area(row: &Row, areas: &mut Areas) {
+    let Some(index) = area_of(row) else { return };
+    match row.kind {
+        33 => drop(areas.insert(index, Area { inserted: false })),
+        50 => drop(areas.insert(index, Area { inserted: true })),
+        _ => {}
+    }
 }
 
 /// The insert's gpa lies in a page table that shares a bit.
@@ -352,10 +376,10 @@ fn in_page_table(row: &Row, regions: &[Region]) -> bool {
 // ---- the verdict
 
 /// 34: for a region of either kind the VP index must be 0, and some VBS context of its VTL must share at least one mask bit.
-fn has_context(sheet: &Sheet, region: &Region) -> bool {
+fn has_context<'a>(directives: impl IntoIterator<Item = &'a Row<'a>>, region: &Region) -> bool {
     let vbs = |row: &&Row| matches!(row.kind, 47 | 48);
     let shares = |row: &Row| row.field(4, 1) == region.vtl && row.field(0, 4) & region.mask != 0;
-    region.vp == 0 && sheet.directives.iter().filter(vbs).any(shares)
+    region.vp == 0 && directives.into_iter().filter(vbs).any(shares)
 }
 
 fn accepted(s: &[u8]) -> Result<Sheet<'_>, Refusal> {
@@ -363,7 +387,7 @@ fn accepted(s: &[u8]) -> Result<Sheet<'_>, Refusal> {
     platform_rows(&sheet)?;
     let regions = initialization_rows(&sheet)?;
     directive_rows(&sheet, &regions)?;
-    refuse(!regions.iter().all(|region| has_context(&sheet, region)), 34, 0, 0)?;
+    refuse(!regions.iter().all(|region| has_context(&sheet.directives, region)), 34, 0, 0)?;
     Ok(sheet)
 }
 
