@@ -17,6 +17,7 @@ mod linked {
     extern "C" {
         fn igvm_verdict(sheet: *const u8, sheet_len: usize, which: u32) -> u64;
         fn igvm_strict_verdict(sheet: *const u8, sheet_len: usize, which: u32) -> u64;
+        fn igvm_report(sheet: *const u8, sheet_len: usize, words: *mut u8, words_len: usize, which: u32) -> u64;
         fn igvm_relocations(sheet: *const u8, sheet_len: usize, mask: u32, words: *mut u8, words_len: usize, which: u32) -> u64;
         fn igvm_relocation_base_valid(sheet: *const u8, sheet_len: usize, mask: u32, region: u64, base: u64, which: u32) -> u64;
         fn igvm_contains(sheet: *const u8, sheet_len: usize, mask: u32, region: u64, gpa: u64, which: u32) -> u64;
@@ -31,6 +32,14 @@ mod linked {
         ) -> u64;
         fn igvm_verdict_numbers(sheet: *const u8, sheet_len: usize, numbers: *mut u8, numbers_len: usize) -> u64;
         fn igvm_strict_verdict_numbers(sheet: *const u8, sheet_len: usize, numbers: *mut u8, numbers_len: usize) -> u64;
+        fn igvm_report_numbers(
+            sheet: *const u8,
+            sheet_len: usize,
+            words: *mut u8,
+            words_len: usize,
+            numbers: *mut u8,
+            numbers_len: usize,
+        ) -> u64;
         fn igvm_relocations_numbers(
             sheet: *const u8,
             sheet_len: usize,
@@ -99,6 +108,11 @@ mod linked {
         unsafe { igvm_strict_verdict(pointer(sheet, which as usize), sheet.len(), which) }
     }
 
+    fn report(sheet: &[u8], words: &mut [u8], which: u32) -> u64 {
+        let beside = which as usize;
+        unsafe { igvm_report(pointer(sheet, beside), sheet.len(), lent(words, beside), words.len(), which) }
+    }
+
     fn relocations(sheet: &[u8], mask: u32, words: &mut [u8], which: u32) -> u64 {
         let beside = which as usize;
         unsafe { igvm_relocations(pointer(sheet, beside), sheet.len(), mask, lent(words, beside), words.len(), which) }
@@ -124,6 +138,12 @@ mod linked {
     fn strict_verdict_numbers(sheet: &[u8], numbers: &mut [u8]) -> u64 {
         let sheet_start = pointer(sheet, numbers.len());
         unsafe { igvm_strict_verdict_numbers(sheet_start, sheet.len(), lent(numbers, sheet.len()), numbers.len()) }
+    }
+
+    fn report_numbers(sheet: &[u8], words: &mut [u8], numbers: &mut [u8]) -> u64 {
+        let (sheet_start, words_start) = (pointer(sheet, numbers.len()), lent(words, numbers.len()));
+        let numbers_start = lent(numbers, sheet.len());
+        unsafe { igvm_report_numbers(sheet_start, sheet.len(), words_start, words.len(), numbers_start, numbers.len()) }
     }
 
     fn relocations_numbers(sheet: &[u8], mask: u32, words: &mut [u8], numbers: &mut [u8]) -> u64 {
@@ -158,12 +178,14 @@ mod linked {
     pub const CALLS: Calls = Calls {
         verdict,
         strict_verdict,
+        report,
         relocations,
         relocation_base_valid,
         contains,
         relocation_base_range,
         verdict_numbers,
         strict_verdict_numbers,
+        report_numbers,
         relocations_numbers,
         relocation_base_valid_numbers,
         contains_numbers,

@@ -1,6 +1,7 @@
-// Document 01 in plain Rust, in its order, with the refusal's number beside each test; and of document 02 the strict verdict, why a base is not
-// valid, and the answer over a range of bases. It is written for reading, not for speed. It is what the calls are compared with where the Rust has no
-// answer: 1 to 6, 19, 27, 28, 35 to 38, 50, regions' words that it can't hold, why a base is not valid, and ranges of more multiples than are tried.
+// Document 01 in plain Rust, in its order, with the refusal's number beside each test; and of document 02 the report, the strict verdict, why a base
+// is not valid, and the answer over a range of bases. It is written for reading, not for speed. It is what the calls are compared with where the Rust
+// has no answer: 1 to 6, 19, 27, 28, 35 to 38, 50, regions' words that it can't hold, why a base is not valid, ranges of more multiples than are tried,
+// and reports on more rows than it is asked about.
 // mutations.txt edits this text: each wrong copy must be caught.
 
 use calls::Calls;
@@ -433,6 +434,81 @@ pub fn strict_verdict(s: &[u8]) -> [u64; 6] {
     verdict_numbers(strictly_accepted(s))
 }
 
+// ---- the report (document 02, request 2): of each row the refusal that it meets where the faulty rows before it are left out; 1 to 7, then 37
+
+/// The rows that are not left out, as far as later ones are judged by them.
+#[derive(Default)]
+struct Kept<'a> {
+    platforms: Vec<&'a Row<'a>>,
+    regions: Vec<Region>,
+    areas: Areas,
+    directives: Vec<&'a Row<'a>>,
+}
+
+impl<'a> Kept<'a> {
+    /// The rules of a row behind these, and behind no others. Its kind tells its list.
+    fn judge(&self, arch: u64, row: &Row) -> Checked {
+        match row.kind {
+            1 => platform_row(arch, row, &self.platforms),
+            16..=19 => initialization_row(arch, row, &self.platforms, &self.regions),
+            _ => directive_row(arch, row, &self.areas, &self.regions),
+        }
+    }
+
+    fn keep(&mut self, row: &'a Row<'a>) {
+        match row.kind {
+            1 => self.platforms.push(row),
+            16..=19 => self.regions.extend(region_of(row)),
+            _ => {
+                mark_area(row, &mut self.areas);
+                self.directives.push(row);
+            }
+        }
+    }
+}
+
+/// What is told of a readable sheet.
+struct Told {
+    /// of each row the number of its refusal, 0 for none
+    words: Vec<u64>,
+    /// 15, over the rows that are kept
+    no_platform: bool,
+    /// 34, over the rows that are kept
+    no_context: bool,
+}
+
+/// A row that has a fault is not kept, and leaves no trace.
+fn tell(sheet: &Sheet) -> Told {
+    let (mut kept, mut words) = (Kept::default(), Vec::new());
+    for row in sheet.platforms.iter().chain(&sheet.initializations).chain(&sheet.directives) {
+        let judged = kept.judge(sheet.arch, row);
+        words.push(judged.map_or_else(|Refusal(number, ..)| number, |()| 0));
+        if judged.is_ok() {
+            kept.keep(row);
+        }
+    }
+    let no_context = kept.regions.iter().any(|region| !has_context(kept.directives.iter().copied(), region));
+    Told { words, no_platform: kept.platforms.is_empty(), no_context }
+}
+
+fn report_into(s: &[u8], lent: &mut [u8]) -> Result<[u64; 7], Refusal> {
+    let sheet = read(s)?;
+    let rows = sheet.platforms.len() + sheet.initializations.len() + sheet.directives.len();
+    refuse(lent.len() / 8 < rows, 37, 0, 0)?;
+    let told = tell(&sheet);
+    for (k, word) in told.words.iter().enumerate() {
+        lent[8 * k..8 * k + 8].copy_from_slice(&word.to_le_bytes());
+    }
+    let faulty = told.words.iter().filter(|word| **word != 0).count();
+    Ok([0, 0, 0, told.no_platform.into(), told.no_context.into(), rows as u64, faulty as u64])
+}
+
+/// Number, row, detail, whether 15 applies (1 or 0), whether 34 does, the rows, and how many of them are faulty. The rows' words go to the front of
+/// the lent bytes. Faulty rows refuse nothing.
+pub fn report(s: &[u8], lent: &mut [u8]) -> [u64; 7] {
+    report_into(s, lent).unwrap_or_else(|Refusal(number, row, detail)| [number, row, detail, 0, 0, 0, 0])
+}
+
 // ---- the queries: the verdict, 35, then 36 or 37; of a range 50 behind 36
 
 /// A region's eight words: base, size, alignment, minimum, maximum, flags, VP, VTL.
@@ -621,6 +697,7 @@ pub fn put(numbers: &[u64], lent: &mut [u8]) -> u64 {
 pub const CALLS: Calls = Calls {
     verdict: |s, which| number(which, &verdict(s)),
     strict_verdict: |s, which| number(which, &strict_verdict(s)),
+    report: |s, lent, which| number(which, &report(s, lent)),
     relocations: |s, mask, lent, which| number(which, &relocations(s, mask, lent)),
     relocation_base_valid: |s, mask, region, base, which| number(which, &relocation_base_valid(s, mask, region, base)),
     contains: |s, mask, region, gpa, which| number(which, &contains(s, mask, region, gpa)),
@@ -629,6 +706,7 @@ pub const CALLS: Calls = Calls {
     },
     verdict_numbers: |s, numbers| put(&verdict(s), numbers),
     strict_verdict_numbers: |s, numbers| put(&strict_verdict(s), numbers),
+    report_numbers: |s, lent, numbers| put(&report(s, lent), numbers),
     relocations_numbers: |s, mask, lent, numbers| put(&relocations(s, mask, lent), numbers),
     relocation_base_valid_numbers: |s, mask, region, base, numbers| put(&relocation_base_valid(s, mask, region, base), numbers),
     contains_numbers: |s, mask, region, gpa, numbers| put(&contains(s, mask, region, gpa), numbers),
