@@ -40,7 +40,7 @@ include!(concat!(env!("OUT_DIR"), "/lib.rs"));
 mod decode;
 mod verdict;
 pub use decode::Headers;
-pub use verdict::{silence_panics, Judged, Relocated};
+pub use verdict::{silence_panics, Judged, Relocated, Reported};
 
 /// What was cut: a line for each file of the source.
 pub const ORIGIN: &str = include_str!(concat!(env!("OUT_DIR"), "/origin.txt"));

@@ -40,6 +40,20 @@ pub struct Judged {
     pub names_other_kind: bool,
 }
 
+/// What the Rust says of headers row by row, each behind those before it with which it finds no fault.
+pub enum Reported {
+    /// the page size is not supported
+    PageSize(u64),
+    Rows {
+        /// of each row the number of its error, 0 for none; none of a row that is not on the domain
+        words: Vec<Option<u64>>,
+        /// no platform is left
+        no_platform: bool,
+        /// 34, of the rows that are left
+        no_context: bool,
+    },
+}
+
 /// The Rust's regions for a mask.
 pub struct Relocated {
     pub regions: Vec<IgvmRelocatableRegion>,
@@ -56,7 +70,7 @@ enum Says {
 use Says::{HeaderArch, Number};
 
 /// The list in which an error has its row.
-#[derive(Clone, Copy)]
+#[derive(Clone, Copy, PartialEq, Eq)]
 enum List {
     None,
     Platform,
@@ -67,15 +81,13 @@ enum List {
 impl Headers {
     /// Document 01's domain for the verdict: no input of 19, 27 or 28 in any row.
     pub fn in_domain(&self) -> bool {
-        use IgvmInitializationHeader::*;
-        let sound = |gpa: u64, size: u64| size != 0 && gpa.checked_add(size).is_some();
-        self.initializations.iter().all(|header| match header {
-            RelocatableRegion { relocation_alignment, relocation_region_gpa, relocation_region_size, .. } => {
-                *relocation_alignment != 0 && sound(*relocation_region_gpa, *relocation_region_size)
-            }
-            PageTableRelocationRegion { gpa, size, .. } => sound(*gpa, *size),
-            _ => true,
-        })
+        self.initializations.iter().all(is_in_domain)
+    }
+
+    /// Of each row whether it is on that domain.
+    pub fn rows_in_domain(&self) -> Vec<bool> {
+        let [platforms, directives] = [self.platforms.len(), self.directives.len()].map(|rows| vec![true; rows]);
+        [platforms, self.initializations.iter().map(is_in_domain).collect(), directives].concat()
     }
 
     /// Its domain for queries, over a nonzero mask: also used sizes up to 16,777,216.
@@ -88,6 +100,43 @@ impl Headers {
     /// The verdict, or what the Rust said when it panicked.
     pub fn verdict(&self) -> Result<Judged, String> {
         ask(|| self.judged())
+    }
+
+    /// What the Rust says row by row, or what it said when it panicked. It gives an error and no row: so it is asked of the rows that are left and
+    /// one more, and where it errs, the error is that row's, and the row is taken out. A row that is not on the domain has a fault by document 01: it is
+    /// taken out too, and nothing is said of it.
+    pub fn report(&self) -> Result<Reported, String> {
+        ask(|| self.reported())
+    }
+
+    fn reported(&self) -> Reported {
+        let (mut platforms, mut initializations, mut directives) = (Vec::new(), Vec::new(), Vec::new());
+        let (revision, mut words) = (self.revision, Vec::new());
+        if let Err(Error::UnsupportedPageSize(size)) = IgvmFile::new(revision, vec![], vec![], vec![]) {
+            return Reported::PageSize(size.into());
+        }
+        for header in &self.platforms {
+            let asked = |platforms| IgvmFile::new(revision, platforms, vec![], vec![]);
+            words.push(Some(one_more(&mut platforms, header, List::Platform, asked)));
+        }
+        let no_platform = matches!(IgvmFile::new(revision, platforms.clone(), vec![], vec![]), Err(Error::NoPlatformHeaders));
+        if no_platform {
+            platforms.push(of_no_bit());
+        }
+        for header in &self.initializations {
+            let asked = |initializations| IgvmFile::new(revision, platforms.clone(), initializations, vec![]);
+            words.push(is_in_domain(header).then(|| one_more(&mut initializations, header, List::Initialization, asked)));
+        }
+        for header in &self.directives {
+            let asked = |directives| IgvmFile::new(revision, platforms.clone(), initializations.clone(), directives);
+            words.push(Some(one_more(&mut directives, header, List::Directive, asked)));
+        }
+        let no_context = match IgvmFile::new(revision, platforms, initializations, directives) {
+            Ok(_) => false,
+            Err(Error::NoMatchingVpContext) => true,
+            Err(error) => panic!("{error:?} of rows in which there was no error"),
+        };
+        Reported::Rows { words, no_platform, no_context }
     }
 
     fn new_of(&self, platforms: usize, initializations: usize, directives: usize) -> Result<IgvmFile, Error> {
@@ -141,6 +190,46 @@ impl Headers {
             _ => panic!("no number for a header {name}"),
         };
         (24, kind, false)
+    }
+}
+
+/// A header on document 01's domain for the verdict: no input of 19, 27 or 28.
+fn is_in_domain(header: &IgvmInitializationHeader) -> bool {
+    use IgvmInitializationHeader::*;
+    let sound = |gpa: u64, size: u64| size != 0 && gpa.checked_add(size).is_some();
+    match header {
+        RelocatableRegion { relocation_alignment, relocation_region_gpa, relocation_region_size, .. } => {
+            *relocation_alignment != 0 && sound(*relocation_region_gpa, *relocation_region_size)
+        }
+        PageTableRelocationRegion { gpa, size, .. } => sound(*gpa, *size),
+        _ => true,
+    }
+}
+
+/// A platform for a file that has none left, so that the Rust does not end by 15 before it comes to other rows. Platforms matter to them by 25 alone, which asks
+/// of a bit whether its last platform is CCA: with this one as without any no bit is CCA's. Its type is of both archs.
+fn of_no_bit() -> IgvmPlatformHeader {
+    IgvmPlatformHeader::SupportedPlatform(IGVM_VHS_SUPPORTED_PLATFORM {
+        compatibility_mask: 1,
+        highest_vtl: 0,
+        platform_type: IgvmPlatformType::VSM_ISOLATION,
+        platform_version: 1,
+        shared_gpa_boundary: 0,
+    })
+}
+
+/// The number of the error that one header more makes in its list, 0 for none. It stays where there is none. 34 is no error of a row: it comes behind all.
+fn one_more<H: Clone>(left: &mut Vec<H>, header: &H, list: List, asked: impl Fn(Vec<H>) -> Result<IgvmFile, Error>) -> u64 {
+    left.push(header.clone());
+    let error = match asked(left.clone()) {
+        Ok(_) | Err(Error::NoMatchingVpContext) => return 0,
+        Err(error) => error,
+    };
+    left.pop();
+    match says(&error) {
+        (Number(number, _), of) if of == list => number,
+        (HeaderArch(_), of) if of == list => 24,
+        _ => panic!("{error:?} is no error of this list"),
     }
 }
 
