@@ -351,7 +351,7 @@ fn any_row(random: &mut Random, image: &Image) -> Option<(usize, usize)> {
 }
 
 /// One field gets a number at a boundary, or one near it, or one that stands elsewhere in the image.
-fn change_field(random: &mut Random, image: &mut Image) {
+pub fn change_field(random: &mut Random, image: &mut Image) {
     let Some((list, at)) = any_row(random, image) else { return };
     let names = fields(image.lists[list][at].kind);
     if names.is_empty() {

@@ -1,6 +1,7 @@
 //! Images of more than 1,024 directive rows: pages, and areas by the thousand. The library keeps 1,024 areas with indexes of 1,024 and above in a small table, and
 //! goes over to a large one where there are more: so images name fewer, just as many and more of them, with faults and contexts before and behind that place.
 
+use crate::faulty;
 use crate::generate::{self, contexts, free_directive, insert_place, interleave, some_bits};
 use crate::random::Random;
 use crate::sheet::{Image, Row};
@@ -26,12 +27,17 @@ pub fn has_many_areas(sheet: &[u8]) -> bool {
     areas.filter(|&area| area >= SMALL as u64).collect::<HashSet<u64>>().len() > SMALL
 }
 
-/// A sheet: an image as it is, with a fault, changed or damaged.
+/// A sheet: an image as it is, with a fault or with many, changed or damaged.
 pub fn sheet(random: &mut Random) -> Vec<u8> {
     let mut image = image(random);
     match random.below(12) {
         0..=4 => {}
-        5..=9 => fault(random, &mut image.lists[2]),
+        5..=7 => fault(random, &mut image.lists[2]),
+        8..=9 => {
+            let list = random.below(6);
+            faulty::break_row(random, &mut image, list.min(2));
+            faults(random, &mut image.lists[2]);
+        }
         _ => generate::change(random, &mut image),
     }
     let mut bytes = image.bytes();
@@ -212,6 +218,33 @@ fn fault(random: &mut Random, rows: &mut [Row]) {
         2..=3 => not_allocated(random, rows, place),
         _ => again.unwrap_or_else(|| not_allocated(random, rows, place)),
     };
+}
+
+/// From one row in a thousand up to every second one become such as may be refused: by 32 where rows before name the area otherwise, or by themselves.
+fn faults(random: &mut Random, rows: &mut [Row]) {
+    let one_in = random.pick(&[2, 3, 10, 100, 1000]);
+    let (mut allocated, mut inserted) = (Vec::new(), Vec::new());
+    for row in rows {
+        if random.one_in(one_in) {
+            let any = random.next() & 0xFFFF_FFFF;
+            let (named, done) = (any_of(random, &allocated).unwrap_or(any), any_of(random, &inserted).unwrap_or(any));
+            *row = match random.below(8) {
+                0 => Row::new(33, &[0x1000, named]),
+                1 => a_use(random, done),
+                2 => Row::new(50, &[0x7000_0000, 0, done]),
+                3 => a_use(random, any),
+                4 => Row::new(33, &[0x1001, any]),
+                5 => Row::new(33, &[0x1000, done]),
+                6 => Row::new(51, &[0x800, 1, 0]),
+                _ => Row::new(50, &[0x801, 0, named]),
+            };
+        }
+        match row.kind {
+            33 => allocated.extend(row.area()),
+            50 => inserted.extend(row.area()),
+            _ => {}
+        }
+    }
 }
 
 fn any_of(random: &mut Random, areas: &[u64]) -> Option<u64> {

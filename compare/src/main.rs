@@ -6,6 +6,7 @@ mod bases;
 mod caught;
 mod columns;
 mod compare;
+mod faulty;
 mod generate;
 mod large;
 mod library;

@@ -10,7 +10,7 @@ type Each<'a> = &'a mut dyn FnMut(&[u8]) -> bool;
 
 /// Every short sheet. False if `each` stopped.
 pub fn every(each: Each) -> bool {
-    let parts: [fn(Each) -> bool; 13] = [
+    let parts: [fn(Each) -> bool; 16] = [
         few_bytes,
         heads,
         revisions,
@@ -24,6 +24,9 @@ pub fn every(each: Each) -> bool {
         region_contexts,
         regions_and_contexts,
         lengths_and_bytes,
+        two_faults,
+        faults_in_lists,
+        faults_of_areas,
     ];
     limits(each) && parts.into_iter().all(|part| part(each)) && three_regions(each) && far_areas(each) && behind_a_fault(each)
 }
@@ -310,6 +313,120 @@ fn regions_and_contexts(each: Each) -> bool {
     })
 }
 
+// ---- several faults
+
+/// For each refusal of a row, one that meets it behind those of the next function's image, with its list.
+fn faults(arch: u8) -> Vec<(usize, Row)> {
+    let other = 1 - arch;
+    let platform = |values: [u64; 5]| (0, Row::new(1, &values));
+    let relocatable = |alignment: u64, gpa: u64, size: u64| (1, Row::new(18, &[2, alignment, gpa, size, 0, 0, 0, 0, 0]));
+    let table = |mask: u64, gpa: u64, size: u64, used: u64| (1, Row::new(19, &[mask, gpa, size, used, 0, 0]));
+    vec![
+        platform([3, 0, 1, 1, 0]),
+        platform([2, 1, 1, 1, 0]),
+        platform([2, 0, 1, 2, 0]),
+        platform([2, 0, 1, 1, 0x1000]),
+        platform([2, 0, 7, 1, 0]),
+        platform([2, 0, if arch == 0 { 6 } else { 0 }, 1, 0]),
+        platform([2, 0, 1, 1, 0]),
+        (1, Row::new(17, &[1, 1, 1])),
+        relocatable(0x1000, 0, 0x1800),
+        relocatable(0x800, 0, 0x1000),
+        relocatable(0, 0, 0x1000),
+        relocatable(0x2000, 0x1000, 0x1000),
+        table(2, 0x800, 0x1000, 0),
+        table(2, 0, 0x1000, 0x800),
+        table(2, 0, 0x1000, 0x2000),
+        (2, vbs(other, 1, 0)),
+        (1, Row::new(17, &[1, 0, 0])),
+        table(3, 0x20000, 0x1000, 0),
+        table(2, 0, 0, 0),
+        relocatable(0x1000, TOP, 0x1000),
+        (1, region(1, 0x11000, 0x1000)),
+        (2, Row::new(32, &[0, 1, 0, 4])),
+        (2, Row::new(33, &[0, 7]).with_tail(b"x")),
+        (2, Row::new(34, &[7, 0])),
+        (2, Row::new(50, &[0x10000, 1, 0])),
+    ]
+}
+
+/// Two rows at fault, each by any refusal, behind a platform, a page table, an area and a context.
+fn two_faults(each: Each) -> bool {
+    (0..2).all(|arch| {
+        let faults = faults(arch);
+        let directives = || vec![vbs(arch, 1, 0), Row::new(33, &[0x1000, 0])];
+        let base = || Image::new(arch, [vec![vsm(1)], vec![page_table(1, 0x10000, 0x2000)], directives()]);
+        let mut with = |rows: [&(usize, Row); 2]| {
+            let mut image = base();
+            rows.into_iter().for_each(|(list, row)| image.lists[*list].push(row.clone()));
+            each(&image.bytes())
+        };
+        faults.iter().all(|first| faults.iter().all(|second| with([first, second])))
+    })
+}
+
+/// Each list with rows in order, faulty ones, both or none.
+fn faults_in_lists(each: Each) -> bool {
+    (0..2u8).all(|arch| {
+        let (no_mask, no_page) = (vsm(3), Row::new(32, &[1, 1, 0, 0]));
+        let mut other_vp = region(1, 0, 0x1000);
+        other_vp.set("vp", 1);
+        let [context, of_other_arch] = [vbs(arch, 1, 0), vbs(1 - arch, 1, 0)];
+        let [area, a_use, no_area] = [Row::new(33, &[0, 0]), Row::new(34, &[0, 0]), Row::new(33, &[1, 0])];
+        let [none, table] = [region(1, 0, 0), page_table(1, 0, 0x1000)];
+        let platforms = [
+            vec![],
+            vec![vsm(1)],
+            vec![no_mask.clone()],
+            vec![no_mask.clone(), vsm(1)],
+            vec![vsm(1), vsm(2)],
+            vec![no_mask.clone(), no_mask],
+        ];
+        let initializations = [
+            vec![],
+            vec![region(1, 0, 0x1000)],
+            vec![none.clone()],
+            vec![none, region(1, 0, 0x1000)],
+            vec![other_vp.clone()],
+            vec![table.clone(), other_vp],
+            vec![page_table(1, 0, 0), table],
+        ];
+        let directives = [
+            vec![],
+            vec![context.clone()],
+            vec![of_other_arch],
+            vec![no_page.clone()],
+            vec![no_page, context.clone()],
+            vec![area, a_use.clone(), context],
+            vec![no_area, a_use],
+        ];
+        platforms.iter().all(|p| {
+            initializations.iter().all(|i| directives.iter().all(|d| each(&Image::new(arch, [p.clone(), i.clone(), d.clone()]).bytes())))
+        })
+    })
+}
+
+/// Every sequence of up to four rows that allocate, name or insert one area, also by faulty rows, and in a page table that is faulty or not.
+fn faults_of_areas(each: Each) -> bool {
+    let actions: &[u64] = &[0, 1, 2, 3, 4, 5];
+    let row = |code: &u64| match code {
+        0 => Row::new(33, &[0x1000, 9]),
+        1 => Row::new(33, &[0x1001, 9]),
+        2 => Row::new(34, &[9, 0]),
+        3 => Row::new(50, &[0, 1, 9]),
+        4 => Row::new(50, &[0x2000, 1, 9]),
+        _ => Row::new(50, &[0x2001, 1, 9]),
+    };
+    (1..=4).all(|length| {
+        product(&vec![actions; length], &mut |v| {
+            [page_table(1, 0x2000, 0x1000), Row::new(19, &[1, 0x2000, 0x1000, 0x2000, 0, 0])].into_iter().all(|table| {
+                let directives = v.iter().map(row).chain([vbs(0, 1, 0)]).collect();
+                each(&Image::new(0, [vec![native()], vec![table], directives]).bytes())
+            })
+        })
+    })
+}
+
 // ---- lengths, cut sheets, changed bytes
 
 /// A row of every kind that the arch takes.
@@ -378,7 +495,7 @@ fn body_lengths(kind: u32, each: Each) -> bool {
 // ---- the limits
 
 /// Lists of the greatest length and one row more, sheets of the greatest length and one byte more; and the same about the lengths that were the greatest before,
-/// 1,024 directive rows and 16,777,216 bytes.
+/// 1,024 directive rows and 16,777,216 bytes. Lists of the greatest length in which every row is faulty.
 fn limits(each: Each) -> bool {
     let regions = |count: u64| (0..count).map(|n| region(1, 0x2000 * n, 0x2000)).collect::<Vec<_>>();
     let with = |p: usize, i: u64, d: usize| Image::new(0, [vec![native(); p], regions(i), vec![vbs(0, 1, 0); d]]);
@@ -386,6 +503,7 @@ fn limits(each: Each) -> bool {
     let directives = [1024, 1025, 8191, 8192, 8193].map(|count| with(1, 64, count));
     rows.iter().chain(&directives).all(|image| each(&image.bytes()))
         && limits_of_areas(each)
+        && each(&Image::new(0, [vec![vsm(3); 16], vec![region(1, 0, 0); 64], vec![Row::new(34, &[0, 0]); 8192]]).bytes())
         && [16_777_216, 16_777_217, 67_108_863, 67_108_864, 67_108_865].into_iter().all(|length| {
             let mut image = with(1, 2, 1);
             image.lists[2].push(Row::new(52, &[1]));
