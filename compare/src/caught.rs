@@ -11,15 +11,19 @@ const REGIONS: u64 = 20_000;
 /// Random sheets that it is asked of before the short ones, which are more.
 const FIRST: u64 = 10_000;
 
+/// Sheets of several faulty rows that it is asked of before the short ones.
+const FAULTY: u64 = 10_000;
+
 /// Large sheets that it is asked of before the short ones.
 const LARGE: u64 = 20;
 
-/// The first difference, in regions' bytes, random sheets, large ones or the short ones, and where it was found.
+/// The first difference, in regions' bytes, random sheets, those of several faulty rows, large ones or the short ones, and where it was found.
 pub fn first_difference(calls: &Calls, seed: u64, cases: u64) -> Option<(String, Difference)> {
     if let (counts, Some(difference)) = region::any_bytes(calls, seed, REGIONS) {
         return Some((format!("region check {}", counts.checks), difference));
     }
     in_random_sheets(calls, Sort::Any, seed, 0, cases.min(FIRST))
+        .or_else(|| in_random_sheets(calls, Sort::Faulty, seed, 0, cases.min(FAULTY)))
         .or_else(|| in_random_sheets(calls, Sort::Large, seed, 0, LARGE))
         .or_else(|| in_short_sheets(calls, seed))
         .or_else(|| in_random_sheets(calls, Sort::Any, seed, FIRST, cases))

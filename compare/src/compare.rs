@@ -1,11 +1,13 @@
 //! One sheet, one call, three answers: of the calls under test, of document 01 in Rust, and, on its domain, of the Rust itself.
-//! To the two verdicts there is a fourth, of plain.rs, and to a range of bases that of ranges.rs. region.rs has the checks by a region's words.
+//! To the two verdicts there is a fourth, of plain.rs, to a report that of report.rs, and to a range of bases that of ranges.rs. region.rs has the checks
+//! by a region's words.
 
 use crate::alignments::Alignments;
 use crate::bases::Bases;
 use crate::ranges::{self, Ranges};
+use crate::report::Answered;
 use crate::strict::{self, Strict};
-use crate::{paper, plain, region};
+use crate::{paper, plain, region, report};
 use calls::Calls;
 use oracle::{Headers, Judged, Relocated};
 use std::fmt::{self, Debug, Formatter};
@@ -15,6 +17,7 @@ use std::fmt::{self, Debug, Formatter};
 pub enum Call {
     Verdict,
     StrictVerdict,
+    Report { lent: usize },
     Relocations { mask: u32, lent: usize },
     BaseValid { mask: u32, region: u64, base: u64 },
     Contains { mask: u32, region: u64, gpa: u64 },
@@ -150,8 +153,11 @@ impl Rust {
 
     /// The Rust's answer, where it has one: not for mask 0, a region's number too high, too few words, or a sum of 2^64 or more. Over a range of
     /// bases it is the one that follows from its check of each multiple: not where the lowest is above the highest, or there are more than are tried.
-    /// The strict verdict is its refusal, or what follows from its headers where it accepts them.
-    pub fn answer(&self, call: Call, words: &mut [u8]) -> Result<Option<SaidNumbers>, String> {
+    /// The strict verdict is its refusal, or what follows from its headers where it accepts them. The report on a sheet is what it says row by row.
+    pub fn answer(&self, sheet: &[u8], call: Call, words: &mut [u8]) -> Result<Option<SaidNumbers>, String> {
+        if let Call::Report { .. } = call {
+            return Ok(report::by_rust(self, sheet, words)?.map(|numbers| said_of(&numbers)));
+        }
         let (Some(judged), Some(headers)) = (&self.judged, &self.headers) else {
             return Ok(None);
         };
@@ -169,7 +175,7 @@ impl Rust {
             return Ok(None);
         };
         Ok(match call {
-            Call::Verdict | Call::StrictVerdict | Call::RegionBaseValid { .. } | Call::RegionContains { .. } => None,
+            Call::Verdict | Call::StrictVerdict | Call::Report { .. } | Call::RegionBaseValid { .. } | Call::RegionContains { .. } => None,
             Call::Relocations { .. } => region_list(&found, words),
             Call::BaseValid { region, base, .. } => {
                 let fits = |r: &&oracle::IgvmRelocatableRegion| base.checked_add(r.size).is_some();
@@ -201,7 +207,7 @@ fn region_list(found: &Relocated, words: &mut [u8]) -> Option<SaidNumbers> {
 impl Call {
     pub fn mask(self) -> u32 {
         match self {
-            Call::Verdict | Call::StrictVerdict | Call::RegionBaseValid { .. } | Call::RegionContains { .. } => 0,
+            Call::Verdict | Call::StrictVerdict | Call::Report { .. } | Call::RegionBaseValid { .. } | Call::RegionContains { .. } => 0,
             Call::Relocations { mask, .. } | Call::BaseValid { mask, .. } | Call::Contains { mask, .. } => mask,
             Call::BaseRange { mask, .. } => mask,
         }
@@ -209,7 +215,7 @@ impl Call {
 
     fn lent(self) -> usize {
         match self {
-            Call::Relocations { lent, .. } => lent,
+            Call::Relocations { lent, .. } | Call::Report { lent } => lent,
             _ => 0,
         }
     }
@@ -223,6 +229,7 @@ impl Call {
     pub fn numbers(self) -> usize {
         match self {
             Call::Verdict | Call::StrictVerdict => 6,
+            Call::Report { .. } => 7,
             Call::Relocations { .. } => 10,
             Call::BaseValid { .. } | Call::Contains { .. } | Call::BaseRange { .. } => 4,
             Call::RegionBaseValid { .. } | Call::RegionContains { .. } => 1,
@@ -247,6 +254,7 @@ impl Call {
         match self {
             Call::Verdict => numbers_of(&paper::verdict(sheet)),
             Call::StrictVerdict => numbers_of(&paper::strict_verdict(sheet)),
+            Call::Report { .. } => numbers_of(&paper::report(sheet, words)),
             Call::Relocations { mask, .. } => numbers_of(&paper::relocations(sheet, mask, words)),
             Call::BaseValid { mask, region, base } => numbers_of(&paper::relocation_base_valid(sheet, mask, region, base)),
             Call::Contains { mask, region, gpa } => numbers_of(&paper::contains(sheet, mask, region, gpa)),
@@ -259,10 +267,11 @@ impl Call {
     }
 
     /// Plain Rust's numbers, where it has any: not of a region list, of the checks of a base and of an address by the sheet.
-    fn by_plain(self, sheet: &[u8]) -> Option<Numbers> {
+    fn by_plain(self, sheet: &[u8], words: &mut [u8]) -> Option<Numbers> {
         match self {
             Call::Verdict => Some(numbers_of(&plain::numbers(plain::verdict(sheet)))),
             Call::StrictVerdict => Some(numbers_of(&plain::numbers(strict::by_plain(sheet)))),
+            Call::Report { .. } => Some(numbers_of(&report::by_plain(sheet, words))),
             Call::BaseRange { mask, region, lowest, highest } => {
                 Some(numbers_of(&ranges::by_plain(sheet, mask, region, (lowest, highest))))
             }
@@ -270,12 +279,14 @@ impl Call {
         }
     }
 
-    /// Plain Rust gives document 01's numbers, if it has any.
-    fn plain_gives(self, sheet: &[u8], by_paper: &Numbers) -> Result<(), String> {
-        match self.by_plain(sheet) {
-            Some(by_plain) if by_plain != *by_paper => {
+    /// Plain Rust gives document 01's numbers, if it has any, and leaves the same words.
+    fn plain_gives(self, sheet: &[u8], (by_paper, paper_words): (&Numbers, &[u8])) -> Result<(), String> {
+        let mut words = self.to_lend();
+        match self.by_plain(sheet, &mut words) {
+            Some(by_plain) if by_plain != *by_paper || words != paper_words => {
                 let [by_plain, by_paper] = [&by_plain, by_paper].map(|numbers| &numbers[..self.numbers()]);
-                Err(format!("plain Rust says {by_plain:?}; document 01 says {by_paper:?}"))
+                let [words, paper_words] = [&words, paper_words].map(|lent| report::words(lent, lent.len() / 8));
+                Err(format!("plain Rust says {by_plain:?}, {words:?}; document 01 says {by_paper:?}, {paper_words:?}"))
             }
             _ => Ok(()),
         }
@@ -285,6 +296,7 @@ impl Call {
         match self {
             Call::Verdict => (calls.verdict)(sheet, which),
             Call::StrictVerdict => (calls.strict_verdict)(sheet, which),
+            Call::Report { .. } => (calls.report)(sheet, words, which),
             Call::Relocations { mask, .. } => (calls.relocations)(sheet, mask, words, which),
             Call::BaseValid { mask, region, base } => (calls.relocation_base_valid)(sheet, mask, region, base, which),
             Call::Contains { mask, region, gpa } => (calls.contains)(sheet, mask, region, gpa, which),
@@ -299,6 +311,7 @@ impl Call {
         match self {
             Call::Verdict => (calls.verdict_numbers)(sheet, numbers),
             Call::StrictVerdict => (calls.strict_verdict_numbers)(sheet, numbers),
+            Call::Report { .. } => (calls.report_numbers)(sheet, words, numbers),
             Call::Relocations { mask, .. } => (calls.relocations_numbers)(sheet, mask, words, numbers),
             Call::BaseValid { mask, region, base } => (calls.relocation_base_valid_numbers)(sheet, mask, region, base, numbers),
             Call::Contains { mask, region, gpa } => (calls.contains_numbers)(sheet, mask, region, gpa, numbers),
@@ -341,7 +354,7 @@ pub enum Between {
     Paper,
     /// plain Rust and document 01, or paper.rs's two rules for a range of bases
     Plain,
-    /// the verdict and the strict verdict of the calls
+    /// the verdict and the strict verdict of the calls, or the verdict and the report, or two reports
     Calls,
 }
 
@@ -356,7 +369,7 @@ pub struct Difference {
 }
 
 /// What a comparison has seen: the refusal's number, how many regions were checked by their words too, the alignments and the answers of those
-/// checked at a base, the ranges of bases, and the strict verdicts.
+/// checked at a base, the ranges of bases, the strict verdicts, and a report.
 #[derive(Default)]
 pub struct Agreed {
     pub number: u64,
@@ -365,6 +378,7 @@ pub struct Agreed {
     pub bases: Bases,
     pub ranges: Ranges,
     pub strict: Strict,
+    pub report: Option<Answered>,
 }
 
 /// The answers to one call, compared: every number, one by one and all at once, every lent byte, and the bytes on either side; and what is said of a region by its words.
@@ -376,12 +390,15 @@ pub fn check(calls: &Calls, sheet: &[u8], rust: &Rust, call: Call, extent: Exten
     let mut paper_bytes = fresh(call.lent());
     let by_paper = call.by_paper(sheet, lent_part(&mut paper_bytes));
     let mut rust_bytes = fresh(call.lent());
-    let by_rust = rust.answer(call, lent_part(&mut rust_bytes)).map_err(|message| differ(Between::Rust, message))?;
-    others_alike(sheet, rust, call, &by_paper)?;
-    if call == Call::StrictVerdict {
-        let [verdict, strict] = [Call::Verdict, call].map(|call| call.verdict_numbers(calls, sheet));
-        strict::goes_with(&verdict, &strict).map_err(|what| differ(Between::Calls, what))?;
-    }
+    let by_rust = rust.answer(sheet, call, lent_part(&mut rust_bytes)).map_err(|message| differ(Between::Rust, message))?;
+    others_alike(sheet, rust, call, (&by_paper, lent_part(&mut paper_bytes)))?;
+    let verdict = || Call::Verdict.verdict_numbers(calls, sheet);
+    let together = match call {
+        Call::StrictVerdict => strict::goes_with(&verdict(), &call.verdict_numbers(calls, sheet)),
+        Call::Report { lent } => report::goes_with(calls, &verdict(), sheet, lent, extent),
+        _ => Ok(()),
+    };
+    together.map_err(|what| differ(Between::Calls, what))?;
     for which in WHICH {
         let mut bytes = fresh(call.lent());
         let answer = call.ask(calls, sheet, lent_part(&mut bytes), which);
@@ -404,8 +421,15 @@ pub fn check(calls: &Calls, sheet: &[u8], rust: &Rust, call: Call, extent: Exten
         (number, Call::BaseRange { lowest, highest, .. }) if lowest > highest => agreed.ranges.refused(number),
         _ => {}
     }
-    if let (Call::StrictVerdict, Some(headers)) = (call, &rust.headers) {
-        agreed.strict.met(headers, &by_paper);
+    match (call, &rust.headers) {
+        (Call::StrictVerdict, Some(headers)) => agreed.strict.met(headers, &by_paper),
+        (Call::Report { .. }, _) => {
+            let numbers = std::array::from_fn(|which| by_paper[which]);
+            let words = report::words(lent_part(&mut paper_bytes), by_paper[5] as usize);
+            let asked = rust.headers.as_ref().filter(|_| by_rust.is_some()).map(|headers| headers.rows_in_domain());
+            agreed.report = Some(Answered { numbers, words, asked });
+        }
+        _ => {}
     }
     Ok(agreed)
 }
@@ -446,8 +470,8 @@ pub enum By {
     /// document 01, since the Rust has none
     Paper,
     Rust,
-    /// the Rust says that a base is not valid, document 02 why; or the Rust says which multiples of a range are valid, or that it accepts the headers,
-    /// document 02 what follows
+    /// the Rust says that a base is not valid, document 02 why; or the Rust says which multiples of a range are valid, that it accepts the headers, or
+    /// which error a row meets, document 02 what follows
     RustAnd02,
     /// document 02, and the Rust has no answer
     Only02,
@@ -464,6 +488,7 @@ impl By {
             Call::RegionBaseValid { .. } => numbers[0] > 1,
             Call::BaseRange { .. } => matches!(numbers[0], 0 | 50),
             Call::StrictVerdict => matches!(numbers[0], 0 | 38),
+            Call::Report { .. } => matches!(numbers[0], 0 | 37),
             _ => false,
         };
         match (has_rust, is_of_02) {
@@ -476,13 +501,13 @@ impl By {
 }
 
 /// The Rust's answer where it has one, which document 01's must agree with, else that of document 01; document 02's is why a base is not valid, the
-/// answer over a range of bases, and the strict verdict on what the verdict accepts.
+/// answer over a range of bases, the strict verdict on what the verdict accepts, and the report.
 pub fn answer(sheet: &[u8], rust: &Rust, call: Call) -> Result<Answer, Difference> {
     let (mut lent, mut rust_lent) = (call.to_lend(), call.to_lend());
     let by_paper = call.by_paper(sheet, &mut lent);
     let by_rust = match call.is_by_words() {
         true => Ok(region::by_rust(sheet, call).map(|said| said_alone(0, said))),
-        false => rust.answer(call, &mut rust_lent),
+        false => rust.answer(sheet, call, &mut rust_lent),
     };
     let same = |other: Option<SaidNumbers>| match other {
         Some(said) if !said.iter().zip(by_paper).all(|(said, number)| said.is(number)) || rust_lent != lent => {
@@ -492,17 +517,17 @@ pub fn answer(sheet: &[u8], rust: &Rust, call: Call) -> Result<Answer, Differenc
     };
     let differ = |between: Between| move |what: String| Difference { sheet: sheet.to_vec(), call, what, between };
     let has_rust = by_rust.and_then(same).map_err(differ(Between::Rust))?;
-    others_alike(sheet, rust, call, &by_paper)?;
+    others_alike(sheet, rust, call, (&by_paper, &lent))?;
     let asked = call.numbers() + usize::from(!call.is_by_words());
     let numbers = (0..asked).map(|which| at(which as u32, &by_paper)).collect();
     Ok(Answer { numbers, lent, by: By::of(call, has_rust, &by_paper) })
 }
 
-/// The Rust reads what document 01 does, and plain Rust gives its numbers.
-fn others_alike(sheet: &[u8], rust: &Rust, call: Call, by_paper: &Numbers) -> Result<(), Difference> {
+/// The Rust reads what document 01 does, and plain Rust gives its numbers and words.
+fn others_alike(sheet: &[u8], rust: &Rust, call: Call, by_paper: (&Numbers, &[u8])) -> Result<(), Difference> {
     let differ = |between: Between| move |what: String| Difference { sheet: sheet.to_vec(), call, what, between };
     if call == Call::Verdict {
-        readable_alike(rust, by_paper[0]).map_err(differ(Between::Rust))?;
+        readable_alike(rust, by_paper.0[0]).map_err(differ(Between::Rust))?;
     }
     call.plain_gives(sheet, by_paper).map_err(differ(Between::Plain))
 }
@@ -518,9 +543,14 @@ fn readable_alike(rust: &Rust, number: u64) -> Result<(), String> {
     Ok(())
 }
 
-/// Plain Rust gives document 01's verdict and strict verdict.
+/// Plain Rust gives document 01's verdict, strict verdict and report.
 pub fn plain_alike(sheet: &[u8]) -> Result<(), String> {
-    [Call::Verdict, Call::StrictVerdict].into_iter().try_for_each(|call| call.plain_gives(sheet, &call.by_paper(sheet, &mut [])))
+    let report = Call::Report { lent: 8 * report::rows(sheet) };
+    [Call::Verdict, Call::StrictVerdict, report].into_iter().try_for_each(|call| {
+        let mut words = call.to_lend();
+        let by_paper = call.by_paper(sheet, &mut words);
+        call.plain_gives(sheet, (&by_paper, &words))
+    })
 }
 
 /// What differs of a number, or of the bytes. Of the other: who it is, its number, all its numbers, and the bytes that it leaves.

@@ -21,6 +21,7 @@ mod random;
 mod ranges;
 mod record;
 mod region;
+mod report;
 mod run;
 mod samples;
 mod sheet;
@@ -49,7 +50,7 @@ struct Options {
 }
 
 const USAGE: &str = "compare [PART] [--cases N] [--seed N] [--threads N] [--backend library|paper] [FILE..]
-parts: all (samples, short, random, large, regions, adapter, order, wrong) or one of these, with the samples' folder; speed; against FOLDER; emit; one HEX; record [--check] FOLDER";
+parts: all (samples, short, random, faulty, large, regions, adapter, order, wrong) or one of these, with the samples' folder; speed; against FOLDER; emit; one HEX; record [--check] FOLDER";
 
 fn options() -> Result<Options, String> {
     let mut options = Options {
@@ -119,6 +120,7 @@ fn part(o: &Options) -> Result<(), String> {
         "samples" => samples::replay(&calls, o.rest.first().ok_or(USAGE)?),
         "short" => short_sheets(&calls, o).map(|tally| tally.print()),
         "random" => random_sheets(&calls, o).map(|tally| tally.print()),
+        "faulty" => faulty_sheets(&calls, o).map(|tally| tally.print()),
         "large" => large_sheets(&calls, o).map(|tally| tally.print()),
         "regions" => region_bytes(&calls, o),
         "adapter" => adapter::run(&calls, o.seed, o.cases, o.threads),
@@ -138,11 +140,17 @@ fn all(calls: &Calls, o: &Options) -> Result<(), String> {
     }
     let mut tally = short_sheets(calls, o)?;
     every_answer("short", &tally)?;
+    every_report("short", &tally)?;
     let random = random_sheets(calls, o)?;
     if o.cases >= ENOUGH {
         every_answer("random", &random)?;
     }
     tally.add(&random);
+    let faulty = faulty_sheets(calls, o)?;
+    if o.cases >= ENOUGH {
+        every_report("faulty", &faulty)?;
+    }
+    tally.add(&faulty);
     tally.add(&large_sheets(calls, o)?);
     tally.print();
     every_refusal(&tally)?;
@@ -180,7 +188,20 @@ fn every_answer(sort: &str, tally: &Tally) -> Result<(), String> {
     Ok(())
 }
 
-fn report(calls: &Calls, place: &str, difference: Difference) -> String {
+/// Every sort of report was met, every refusal by it, and every refusal of a row at a first faulty row, at a later one, and with the Rust.
+fn every_report(sort: &str, tally: &Tally) -> Result<(), String> {
+    let (reports, [refusals, first, later, by_rust]) = (tally.reports.missing(), tally.missing_words());
+    if !reports.is_empty() || [&refusals, &first, &later, &by_rust].iter().any(|missing| !missing.is_empty()) {
+        let missing = format!("of reports these were not met: {reports:?}, refusals {refusals:?}");
+        return Err(format!("{sort} sheets: {missing}, first words {first:?}, later words {later:?}, with the Rust {by_rust:?}"));
+    }
+    println!(
+        "{sort} sheets: every sort and refusal of a report was met, and every refusal of a row at a first faulty row and at a later one"
+    );
+    Ok(())
+}
+
+fn difference_text(calls: &Calls, place: &str, difference: Difference) -> String {
     let smallest = shrink::smallest(calls, difference.clone());
     format!("DIFFERENCE in {place}\n{}\nsmallest:\n{}", shrink::text(&difference), shrink::text(&smallest))
 }
@@ -189,7 +210,7 @@ fn short_sheets(calls: &Calls, o: &Options) -> Result<Tally, String> {
     let start = Instant::now();
     let mut run = run::Run::new(calls);
     if let Err(difference) = run.short_sheets(o.seed) {
-        return Err(report(calls, &format!("short sheet {}", run.tally.cases), difference));
+        return Err(difference_text(calls, &format!("short sheet {}", run.tally.cases), difference));
     }
     println!("short sheets: {} agree, {:.1?}", run.tally.cases, start.elapsed());
     Ok(run.tally)
@@ -197,6 +218,13 @@ fn short_sheets(calls: &Calls, o: &Options) -> Result<Tally, String> {
 
 fn random_sheets(calls: &Calls, o: &Options) -> Result<Tally, String> {
     sheets_of(calls, o, run::Sort::Any, o.cases)
+}
+
+/// One sheet of several faulty rows for so many others.
+const FAULTY_SHARE: u64 = 4;
+
+fn faulty_sheets(calls: &Calls, o: &Options) -> Result<Tally, String> {
+    sheets_of(calls, o, run::Sort::Faulty, o.cases / FAULTY_SHARE)
 }
 
 /// One large sheet for so many others: it takes some 300 times as long.
@@ -217,7 +245,7 @@ fn sheets_of(calls: &Calls, o: &Options, sort: run::Sort, cases: u64) -> Result<
     let (tally, found) = run::random_threads(calls, sort, o.seed, o.threads, cases);
     let name = sort.name();
     if let Some((case, difference)) = found {
-        return Err(report(calls, &format!("{name} sheet {case} of seed {}", o.seed), difference));
+        return Err(difference_text(calls, &format!("{name} sheet {case} of seed {}", o.seed), difference));
     }
     println!("{name} sheets: {} agree, seed {}, {:.1?}", tally.cases, o.seed, start.elapsed());
     Ok(tally)
@@ -227,7 +255,7 @@ fn region_bytes(calls: &Calls, o: &Options) -> Result<(), String> {
     let start = Instant::now();
     let (counts, found) = region::any_bytes(calls, o.seed, o.cases);
     if let Some(difference) = found {
-        return Err(report(calls, &format!("region check {} of seed {}", counts.checks, o.seed), difference));
+        return Err(difference_text(calls, &format!("region check {} of seed {}", counts.checks, o.seed), difference));
     }
     println!("region checks on any bytes agree: {}; {:.1?}", counts.seen()?, start.elapsed());
     Ok(())
@@ -262,7 +290,7 @@ fn caught_copy((name, what, calls): &(&str, &str, Calls), o: &Options) -> Option
     let by = match smallest.between {
         Between::Rust => "the Rust",
         Between::Paper => "document 01",
-        Between::Calls => "the verdict",
+        Between::Calls => "the calls themselves",
         Between::Plain => return None,
     };
     Some(format!("caught {name} ({what}): {place}, by {by}; {} bytes, {:?}", smallest.sheet.len(), smallest.call))

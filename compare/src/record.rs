@@ -484,6 +484,7 @@ impl Case {
             Call::RegionContains { .. } => 5,
             Call::BaseRange { .. } => 6,
             Call::StrictVerdict => 7,
+            Call::Report { .. } => 8,
         }
     }
 
@@ -552,7 +553,7 @@ impl Case {
     fn bytes(&self) -> Vec<u8> {
         let (region, value, highest, lent) = match self.call {
             Call::Verdict | Call::StrictVerdict => (0, 0, 0, 0),
-            Call::Relocations { lent, .. } => (0, 0, 0, lent),
+            Call::Relocations { lent, .. } | Call::Report { lent } => (0, 0, 0, lent),
             Call::BaseValid { region, base, .. } => (region, base, 0, 0),
             Call::Contains { region, gpa, .. } => (region, gpa, 0, 0),
             Call::RegionBaseValid { base: value } | Call::RegionContains { gpa: value } => (0, value, 0, 0),
@@ -575,6 +576,7 @@ impl Case {
         let call = match self.call {
             Call::Verdict => "verdict".into(),
             Call::StrictVerdict => "strict_verdict".into(),
+            Call::Report { lent } => format!("report lent {lent}"),
             Call::Relocations { mask, lent } => format!("relocations mask {mask} lent {lent}"),
             Call::BaseValid { mask, region, base } => format!("relocation_base_valid mask {mask} region {region} base {base}"),
             Call::Contains { mask, region, gpa } => format!("contains mask {mask} region {region} gpa {gpa}"),

@@ -105,7 +105,7 @@ pub fn alike(
             same(calls, sheet, rust, call, &lent[64 * region as usize..][..64], agreed)?;
             agreed.regions += 1;
         }
-        Call::Verdict | Call::StrictVerdict | Call::RegionBaseValid { .. } | Call::RegionContains { .. } => {}
+        Call::Verdict | Call::StrictVerdict | Call::Report { .. } | Call::RegionBaseValid { .. } | Call::RegionContains { .. } => {}
     }
     Ok(())
 }
@@ -128,7 +128,7 @@ fn same(calls: &Calls, sheet: &[u8], rust: &Rust, call: Call, region: &[u8], agr
     let answer = check(calls, region, call.by_words())?;
     count_base((&mut agreed.alignments, &mut agreed.bases), region, call.by_words(), answer);
     let differ = |between: Between, what: String| Difference { sheet: sheet.to_vec(), call, what, between };
-    let by_rust = rust.answer(call, &mut []).map_err(|message| differ(Between::Rust, message))?.map(|numbers| numbers[3]);
+    let by_rust = rust.answer(sheet, call, &mut []).map_err(|message| differ(Between::Rust, message))?.map(|numbers| numbers[3]);
     let by_sheet = Some(Said::Number(call.ask(calls, sheet, &mut [], 3)));
     for (other, between, who) in [(by_rust, Between::Rust, "the Rust says"), (by_sheet, Between::Paper, "by the sheet it is")] {
         if let Some(other) = other.filter(|other| !other.is(answer)) {
@@ -160,7 +160,7 @@ fn same_range(
         ));
     }
     let answer = call.ask(calls, sheet, &mut [], 3);
-    let by_rust = rust.answer(call, &mut []).map_err(|message| differ(Between::Rust, message))?.map(|numbers| numbers[3]);
+    let by_rust = rust.answer(sheet, call, &mut []).map_err(|message| differ(Between::Rust, message))?.map(|numbers| numbers[3]);
     let by_words = ranges::by_words(&words, (lowest, highest), |base| (calls.region_base_valid)(region, base));
     let others = [
         (by_rust, Between::Rust, "from the Rust's check of each multiple follows"),

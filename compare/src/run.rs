@@ -4,7 +4,7 @@ use crate::columns::Columns;
 use crate::compare::{check, Call, Difference, Extent, Rust};
 use crate::random::Random;
 use crate::tally::Tally;
-use crate::{generate, large, plan, short};
+use crate::{faulty, generate, large, plan, report, short};
 use calls::Calls;
 
 /// The comparison of one sheet after another, with its counts.
@@ -18,7 +18,7 @@ impl<'a> Run<'a> {
         Run { calls, tally: Tally::default() }
     }
 
-    /// The two verdicts, then queries: one of a refused sheet; of an accepted one some, or all once in 256 times if it is not large.
+    /// The two verdicts and the report, then queries: one of a refused sheet; of an accepted one some, or all once in 256 times if it is not large.
     pub fn sheet(&mut self, random: &mut Random, sheet: &[u8]) -> Result<(), Difference> {
         let rust = Rust::of(sheet);
         let queries = match self.verdict(sheet, &rust, random.next())? {
@@ -29,12 +29,18 @@ impl<'a> Run<'a> {
         self.queries(sheet, &rust, &queries, random.next())
     }
 
-    /// The verdict and the strict verdict on a sheet. Gives the verdict's number.
+    /// The verdict, the strict verdict and reports on a sheet. Gives the verdict's number.
     pub fn verdict(&mut self, sheet: &[u8], rust: &Rust, case: u64) -> Result<u64, Difference> {
         let number = check(self.calls, sheet, rust, Call::Verdict, Extent::Case(case))?.number;
         let strict = check(self.calls, sheet, rust, Call::StrictVerdict, Extent::Case(case))?;
         self.tally.strict_verdicts[strict.number as usize] += 1;
         self.tally.strict.add(&strict.strict);
+        for call in report::calls(sheet, number, Extent::Case(case)) {
+            let agreed = check(self.calls, sheet, rust, call, Extent::Case(case))?;
+            if let (Call::Report { lent }, Some(answered)) = (call, &agreed.report) {
+                self.tally.report(sheet, lent, answered);
+            }
+        }
         self.count(sheet, rust, number);
         if matches!(number, 0 | 20) {
             self.tally.alignments.verdict(sheet, number, Call::Verdict.ask(self.calls, sheet, &mut [], 1));
@@ -92,6 +98,8 @@ impl<'a> Run<'a> {
 pub enum Sort {
     /// images of few rows, but for rare ones
     Any,
+    /// the same, several rows of which are faulty
+    Faulty,
     /// images of more than 1,024 directive rows
     Large,
 }
@@ -100,6 +108,7 @@ impl Sort {
     pub fn name(self) -> &'static str {
         match self {
             Sort::Any => "random",
+            Sort::Faulty => "faulty",
             Sort::Large => "large",
         }
     }
@@ -107,6 +116,7 @@ impl Sort {
     fn sheet(self, random: &mut Random) -> Vec<u8> {
         match self {
             Sort::Any => generate::sheet(random),
+            Sort::Faulty => faulty::sheet(random),
             Sort::Large => large::sheet(random),
         }
     }

@@ -4,7 +4,7 @@ use crate::compare::{check, Call, Extent, Rust};
 use crate::library::LIBRARY;
 use crate::random::Random;
 use crate::sheet::hex;
-use crate::{generate, large, line, paper, plain, plan, strict};
+use crate::{generate, large, line, paper, plain, plan, report, strict};
 use calls::Calls;
 use std::fs;
 use std::path::Path;
@@ -24,7 +24,8 @@ pub fn replay(calls: &Calls, folder: &str) -> Result<(), String> {
         }
         let rust = Rust::of(&sheet);
         with_rust += u64::from(rust.judged.is_some());
-        for call in [vec![Call::Verdict, Call::StrictVerdict], plan::all(&sheet)].concat() {
+        let reports = report::calls(&sheet, paper::verdict(&sheet)[0], Extent::All);
+        for call in [vec![Call::Verdict, Call::StrictVerdict], reports, plan::all(&sheet)].concat() {
             check(calls, &sheet, &rust, call, Extent::All).map_err(|d| format!("sample {name}: {:?}: {}", d.call, d.what))?;
         }
         count += 1;
@@ -58,6 +59,14 @@ pub fn one(digits: &str) -> Result<(), String> {
             println!("library{verdict}: {}", line(&library, call, &sheet));
         }
     }
+    let mut lent = vec![0; 8 * report::rows(&sheet)];
+    let mut reports = vec![("document 01", paper::report(&sheet, &mut lent), report::words(&lent, lent.len()))];
+    reports.push(("plain Rust", report::by_plain(&sheet, &mut lent), report::words(&lent, lent.len())));
+    if let Some(library) = LIBRARY {
+        let numbers = [0, 1, 2, 3, 4, 5, 6].map(|which| (library.report)(&sheet, &mut lent, which));
+        reports.push(("library", numbers, report::words(&lent, lent.len())));
+    }
+    reports.iter().for_each(|(who, numbers, words)| println!("{who}, report: {numbers:?} {words:?}"));
     let Some(headers) = oracle::Headers::decode(&sheet) else {
         println!("the Rust: no headers");
         return Ok(());

@@ -1,7 +1,8 @@
 //! The smallest sheet near a given one on which two answers still differ: rows dropped, opaque bytes cut, fields set to 0. Of a large sheet only many rows or
 //! all data at once are left out: each look at it takes long.
 
-use crate::compare::{check, Call, Difference, Extent, Rust};
+use crate::compare::{check, Between, Call, Difference, Extent, Rust};
+use crate::report;
 use crate::sheet::{fields, fields_length, hex, Image};
 use calls::Calls;
 
@@ -18,14 +19,30 @@ pub fn smallest(calls: &Calls, difference: Difference) -> Difference {
 fn smaller(calls: &Calls, from: &Difference) -> Option<Difference> {
     let differs = |sheet: &[u8], call: Call| {
         let found = check(calls, sheet, &Rust::of(sheet), call, Extent::All).err()?;
-        (found.between == from.between).then_some(found)
+        is_alike(&found, from).then_some(found)
     };
     let image = Image::parse(&from.sheet).filter(|_| !from.call.is_by_words());
     let by_rows = image.iter().flat_map(|image| edits(image).into_iter().map(|edit| edited(image, &edit)));
     let by_bytes = bytes(&from.sheet).into_iter();
     let sheets = by_rows.chain(by_bytes).filter(|sheet| *sheet != from.sheet);
-    let on_sheets = sheets.filter_map(|sheet| differs(&sheet, from.call)).next();
+    let on_sheets = sheets.filter_map(|sheet| on_sheet(from, &sheet).into_iter().find_map(|call| differs(&sheet, call))).next();
     on_sheets.or_else(|| calls_below(from.call).into_iter().find_map(|call| differs(&from.sheet, call)))
+}
+
+/// The same two disagree. Of a report it may be any but plain Rust: what the calls are compared with first is often the next to disagree.
+fn is_alike(found: &Difference, from: &Difference) -> bool {
+    let is_plain = |difference: &Difference| difference.between == Between::Plain;
+    let is_report = matches!(from.call, Call::Report { .. });
+    found.between == from.between || is_report && !is_plain(found) && !is_plain(from)
+}
+
+/// The call on a smaller sheet. For a report as many bytes are lent, and fewer by a word for each row that is not there.
+fn on_sheet(from: &Difference, sheet: &[u8]) -> Vec<Call> {
+    let fewer = report::rows(&from.sheet).saturating_sub(report::rows(sheet));
+    match from.call {
+        Call::Report { lent } if fewer != 0 => vec![Call::Report { lent: lent.saturating_sub(8 * fewer) }, from.call],
+        call => vec![call],
+    }
 }
 
 /// A step towards a smaller image.
@@ -114,6 +131,10 @@ fn bytes(sheet: &[u8]) -> Vec<Vec<u8>> {
 fn calls_below(call: Call) -> Vec<Call> {
     match call {
         Call::Verdict | Call::StrictVerdict => vec![],
+        Call::Report { lent } => {
+            let less = [0, lent / 2, lent.saturating_sub(64), lent.saturating_sub(8), lent.saturating_sub(1)];
+            less.into_iter().filter(|&less| less < lent).map(|lent| Call::Report { lent }).collect()
+        }
         Call::RegionBaseValid { base } => smaller_values(base).into_iter().map(|base| Call::RegionBaseValid { base }).collect(),
         Call::RegionContains { gpa } => smaller_values(gpa).into_iter().map(|gpa| Call::RegionContains { gpa }).collect(),
         Call::Relocations { mask, lent } => {
