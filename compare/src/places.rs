@@ -33,6 +33,8 @@ struct Placed {
     relocation_base_range: Option<unsafe extern "C" fn(*const u8, usize, u32, u64, u64, u64, u32) -> u64>,
     /// nor this
     strict_verdict: Option<unsafe extern "C" fn(*const u8, usize, u32) -> u64>,
+    /// nor this
+    report: Option<unsafe extern "C" fn(*const u8, usize, *mut u8, usize, u32) -> u64>,
 }
 
 impl Placed {
@@ -56,6 +58,7 @@ impl Placed {
             let region_base_valid = dlsym(handle, c"igvm_region_base_valid".as_ptr());
             let relocation_base_range = dlsym(handle, c"igvm_relocation_base_range".as_ptr());
             let strict_verdict = dlsym(handle, c"igvm_strict_verdict".as_ptr());
+            let report = dlsym(handle, c"igvm_report".as_ptr());
             Ok(Placed {
                 verdict: std::mem::transmute(verdict),
                 relocations: std::mem::transmute(relocations),
@@ -64,6 +67,7 @@ impl Placed {
                 region_base_valid: std::mem::transmute(region_base_valid),
                 relocation_base_range: std::mem::transmute(relocation_base_range),
                 strict_verdict: std::mem::transmute(strict_verdict),
+                report: std::mem::transmute(report),
             })
         }
     }
@@ -75,6 +79,7 @@ impl Placed {
             Question::Bases(_) => self.region_base_valid.is_some(),
             Question::Range => self.relocation_base_range.is_some(),
             Question::Strict(_) => self.strict_verdict.is_some(),
+            Question::Report(_) => self.report.is_some(),
             Question::Loader => false,
             Question::Accepted | Question::Refused(_) | Question::Relocations | Question::Check => true,
         }
@@ -89,13 +94,14 @@ impl Placed {
             Question::Check => unsafe { (self.relocation_base_valid)(sheet.as_ptr(), sheet.len(), 1, region, base, 3) },
             Question::Range => unsafe { self.relocation_base_range.expect("the call")(sheet.as_ptr(), sheet.len(), 1, region, 1, base, 3) },
             Question::Strict(_) => unsafe { self.strict_verdict.expect("the call")(sheet.as_ptr(), sheet.len(), 0) },
+            Question::Report(_) => unsafe { self.report.expect("the call")(sheet.as_ptr(), sheet.len(), lent.as_mut_ptr(), lent.len(), 6) },
             _ => unsafe { (self.verdict)(sheet.as_ptr(), sheet.len(), 0) },
         }
     }
 
     /// It answers as the case says. A build of other limits may refuse the image.
     fn answers(&self, case: &Case) -> bool {
-        case.has_bases() || self.ask(case, &mut [0; 64 * 64]) == case.answer
+        case.has_bases() || self.ask(case, &mut case.to_lend()) == case.answer
     }
 
     /// Nanoseconds of a call, after one that is not measured.
@@ -104,7 +110,7 @@ impl Placed {
             let took = case.check_bases(|region, base| unsafe { check(region.as_ptr(), region.len(), base) }, times);
             return case.nanoseconds(took, times);
         }
-        let mut lent = [0; 64 * 64];
+        let mut lent = case.to_lend();
         self.ask(case, &mut lent);
         case.nanoseconds(time(vec![(); times], |()| assert_eq!(self.ask(case, &mut lent), case.answer)), times)
     }

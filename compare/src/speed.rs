@@ -5,7 +5,7 @@ use crate::memory::Sheet;
 use crate::region::{by_plain, words};
 use crate::sheet::{Image, Row};
 use crate::short::{native, page_table, region, vbs};
-use crate::{loader, paper, plain, ranges, strict};
+use crate::{loader, paper, plain, ranges, report, strict};
 use calls::Calls;
 use oracle::{Headers, IgvmFile, Relocated};
 use std::hint::black_box;
@@ -100,8 +100,10 @@ pub enum Question {
     Range,
     /// the strict verdict, where the verdict accepts: it accepts too, or refuses the last region by 38
     Strict(u64),
+    /// the report, where the verdict accepts, or refuses with this number
+    Report(u64),
 }
-use Question::{Accepted, Bases, Check, Loader, Numbers, Range, Refused, Relocations, Strict};
+use Question::{Accepted, Bases, Check, Loader, Numbers, Range, Refused, Relocations, Report, Strict};
 
 /// How many bases are checked at a time, since a check is as short as what it takes to measure one.
 const BASES: u64 = 64;
@@ -178,12 +180,14 @@ impl Case {
             Refused(number) | Strict(number) => number,
             Check => paper::relocation_base_valid(&sheet, 1, last.0, last.1)[3],
             Range => paper::relocation_base_range(&sheet, 1, last.0, 1, last.1)[3],
+            Report(_) => paper::report(&sheet, &mut vec![0; 8 * report::rows(&sheet)])[6],
             Accepted | Numbers | Relocations | Loader | Bases(_) => 0,
         };
         Case { name, sheet, headers, region: region(0), question, last, answer }
     }
 
-    /// Document 01 and the Rust accept the image, or refuse it, as the question says; and the strict verdict does.
+    /// Document 01 and the Rust accept the image, or refuse it, as the question says; and the strict verdict does. Of a report's rows none is faulty, or half of those
+    /// behind the platform.
     fn check(&self) {
         assert_eq!(paper::verdict(&self.sheet)[0], self.number(), "{}: document 01", self.name);
         let judged = self.headers.verdict().expect("no panic");
@@ -192,6 +196,10 @@ impl Case {
             let last = (self.headers.platforms.len() + self.headers.initializations.len()) as u64;
             let row = if number == 0 { 0 } else { last };
             assert_eq!(paper::strict_verdict(&self.sheet)[..2], [number, row], "{}: document 02", self.name);
+        }
+        if let Report(number) = self.question {
+            let faulty = if number == 0 { 0 } else { self.headers.directives.len() as u64 / 2 };
+            assert_eq!(self.answer, faulty, "{}: faulty rows", self.name);
         }
         if let Some(load) = loader::BY_LIBRARY.filter(|_| self.question == Loader) {
             let hold = load(&self.headers).0;
@@ -225,7 +233,7 @@ impl Case {
     /// The number of the verdict's refusal, 0 where there is none.
     pub fn number(&self) -> u64 {
         match self.question {
-            Refused(number) => number,
+            Refused(number) | Report(number) => number,
             Accepted | Numbers | Relocations | Loader | Bases(_) | Check | Range | Strict(_) => 0,
         }
     }
@@ -243,16 +251,16 @@ impl Case {
     }
 
     /// `relocations` alone and the verdict for one number are no sides of that verdict, plain Rust has no region list, a loader starts from
-    /// headers, and bases are checked by a region's words. The Rust has no check of a range and no strict verdict, and beside a range stands the check
-    /// of a base.
+    /// headers, and bases are checked by a region's words. The Rust has no check of a range, no strict verdict and no report, and beside a range stands the check
+    /// of a base. Beside the report on an image with faulty rows the verdict, which ends at the first of them, does not stand.
     pub fn has(&self, side: Side) -> bool {
         match side {
             Alone => self.question == Relocations,
-            Verdict => matches!(self.question, Numbers | Relocations | Check | Range | Strict(_)),
+            Verdict => matches!(self.question, Numbers | Relocations | Check | Range | Strict(_) | Report(0)),
             Base => self.question == Range,
             Plain => !matches!(self.question, Relocations | Loader | Check),
-            Bytes => !matches!(self.question, Loader | Bases(_) | Range | Strict(_)),
-            Ready => !matches!(self.question, Range | Strict(_)),
+            Bytes => !matches!(self.question, Loader | Bases(_) | Range | Strict(_) | Report(_)),
+            Ready => !matches!(self.question, Range | Strict(_) | Report(_)),
             Library => true,
         }
     }
@@ -266,15 +274,21 @@ impl Case {
             Check => (calls.relocation_base_valid)(sheet, 1, self.last.0, self.last.1, 3),
             Range => (calls.relocation_base_range)(sheet, 1, self.last.0, 1, self.last.1, 3),
             Strict(_) => (calls.strict_verdict)(sheet, 0),
+            Report(_) => (calls.report)(sheet, lent, 6),
             Loader | Bases(_) => unreachable!("more than one call"),
         }
     }
 
     /// So many calls that ask this and give this answer, after one that is not measured.
     fn asked(&self, calls: &Calls, question: Question, answer: u64, times: usize) -> Duration {
-        let mut lent = [0; 64 * 64];
+        let mut lent = self.to_lend();
         self.ask(calls, question, &mut lent);
         time(vec![(); times], |()| assert_eq!(self.ask(calls, question, &mut lent), answer))
+    }
+
+    /// Bytes to lend: words for 64 regions, and for a report one for each row.
+    pub fn to_lend(&self) -> Vec<u8> {
+        vec![0; (64 * 64).max(8 * self.headers.kinds.len())]
     }
 
     /// The verdict by plain Rust, or the strict one.
@@ -288,6 +302,13 @@ impl Case {
     fn plain_range(&self) -> [u64; 4] {
         let numbers = ranges::by_plain(black_box(&self.sheet[..]), 1, self.last.0, (1, self.last.1));
         assert_eq!(numbers[3], self.answer);
+        numbers
+    }
+
+    /// The report by plain Rust.
+    fn plain_report(&self, lent: &mut [u8]) -> report::Numbers {
+        let numbers = report::by_plain(black_box(&self.sheet[..]), lent);
+        assert_eq!(numbers[6], self.answer);
         numbers
     }
 
@@ -334,6 +355,11 @@ impl Case {
             Plain if self.question == Range => {
                 self.plain_range();
                 time(vec![(); times], |()| self.plain_range())
+            }
+            Plain if matches!(self.question, Report(_)) => {
+                let mut lent = self.to_lend();
+                self.plain_report(&mut lent);
+                time(vec![(); times], |()| self.plain_report(&mut lent))
             }
             Plain => {
                 let verdict = if let Strict(_) = self.question { strict::by_plain } else { plain::verdict };
@@ -448,6 +474,14 @@ fn each_case(each: &mut dyn FnMut(String, &dyn Fn(String) -> Case)) {
     add("strict-bits-64".into(), Strict(0), &|| context_for_each_bit(64));
     add("strict-pages-1024".into(), Strict(0), &|| pages(1024, 0));
     add("strict-refused-64".into(), Strict(38), &|| last_lacks_bit(64));
+    add("report-b".into(), Report(0), &b);
+    add("report-64".into(), Report(0), &|| initializations(64));
+    add("report-pages".into(), Report(0), &|| pages(1024, 0));
+    add("report-areas".into(), Report(0), &|| areas(1024, SPREAD));
+    add("report-8192".into(), Report(0), &|| areas(8192, SPREAD));
+    for rows in [1024, 2048, 4096, 8192] {
+        add(format!("report-half-{rows}"), Report(32), &|| half_faulty(rows));
+    }
     for alignment in [0x1000, 0x20_0000, 0x4000_0000, 1 << 57, 0x3000, 0x5000, 0x60_0000] {
         add(format!("aligned-{}", named(alignment)), Accepted, &|| aligned(64, alignment));
     }
@@ -572,6 +606,22 @@ fn areas(rows: u64, step: u64) -> Image {
     let used = (0..2 * count).map(|use_| Row::new(34 + (use_ % 10) as u32, &[index(use_ % count), 0]));
     let inserted = (0..count).map(|area| Row::new(50, &[0x1000 * area, 1, index(area)]));
     image(vec![], allocated.chain(used).chain(inserted).collect())
+}
+
+/// An area, a use of one that is not there, a use of one that is, and an area allocated again, in turn, so that half of the rows are faulty. Their indexes are spread
+/// over 32 bits, and a row names an area of any row before it.
+pub fn half_faulty(rows: u64) -> Image {
+    let index = |area: u64| (area * SPREAD) & 0xFFFF_FFFF;
+    let row = |row: u64| {
+        let (area, earlier) = (row / 4, row * 7 % (row / 4 + 1));
+        match row % 4 {
+            0 => Row::new(33, &[0x1000, index(area)]),
+            1 => Row::new(34, &[index(rows + area), 0]),
+            2 => Row::new(34, &[index(earlier), 0]),
+            _ => Row::new(33, &[0x1000, index(earlier)]),
+        }
+    };
+    image(vec![], (0..rows).map(row).collect())
 }
 
 /// Each row allocates an area; their indexes are spread over 32 bits.
