@@ -1,17 +1,19 @@
 //! A sample of answers for a replay without the Rust: `args`, `data/calls-1` and so on, and `stdout` of the program crates/replay. Every answer is
-//! the Rust's, or document 01's where the Rust has none; why a base is not valid, what follows over a range of bases, and the strict verdict on what the
-//! verdict accepts, is document 02's. The library is not asked. Among them are few sheets of more than 1,024 directive rows, made for what they show.
+//! the Rust's, or document 01's where the Rust has none; why a base is not valid, what follows over a range of bases, the strict verdict on what the
+//! verdict accepts, and a report, is document 02's. The library is not asked. Among them are few sheets of more than 1,024 directive rows, made for what
+//! they show.
 
 use crate::bases::{Bases, Faults};
 use crate::columns::Columns;
-use crate::compare::{answer, to_lend, Answer, By, Call, Rust};
+use crate::compare::{answer, to_lend, Answer, By, Call, Extent, Rust};
 use crate::generate::TOP;
 use crate::random::Random;
 use crate::ranges::{self, Ranges};
+use crate::report::{self, Answered};
 use crate::sheet::{hex, Image, Row};
-use crate::short::{native, one_page, vbs, vsm};
+use crate::short::{native, one_page, page_table, vbs, vsm};
 use crate::tally::{refusals, Tally};
-use crate::{caught, generate, large, paper, plan, region, shrink, strict};
+use crate::{caught, faulty, generate, large, paper, plan, region, short, shrink, speed, strict};
 use calls::Calls;
 use oracle::Headers;
 use std::collections::BTreeMap;
@@ -27,8 +29,12 @@ const LARGE: usize = 9000;
 const LEAST: usize = 3;
 /// Random bytes in a region's place.
 const REGIONS: u64 = 8;
+/// Sheets of several faulty rows that reports are taken from.
+const FAULTY: u64 = 20_000;
 /// How many bytes of a file the replay has room for.
 const FILE: usize = 524_288;
+/// How many bytes the replay can lend.
+const LENT: usize = 4224;
 
 /// One call on one sheet, with its answer.
 struct Case {
@@ -43,6 +49,8 @@ pub fn run(seed: u64, folder: &str, check: bool) -> Result<(), String> {
     cases.extend(region_bytes(seed)?);
     cases.extend(range_cases()?);
     cases.extend(strict_cases()?);
+    cases.extend(report_cases()?);
+    cases.extend(sample_of_reports(seed)?);
     cases.extend(large_sheets()?);
     catch_wrong_copies(seed, &mut cases)?;
     cases.sort_by_key(|case| (case.number(), case.code()));
@@ -50,6 +58,7 @@ pub fn run(seed: u64, folder: &str, check: bool) -> Result<(), String> {
     every_base(&cases)?;
     every_range(&cases)?;
     every_strict(&cases)?;
+    every_report(&cases)?;
     let files = files(&cases);
     let lines: String = cases.iter().map(Case::line).collect();
     let by_rust = cases.iter().filter(|case| case.answer.by.is_rust()).count();
@@ -252,6 +261,124 @@ fn strict_cases() -> Result<Vec<Case>, String> {
     sheets.map(|sheet| Case::new(&sheet, &Rust::of(&sheet), Call::StrictVerdict)).collect()
 }
 
+/// Image B of document 01.
+fn image_b() -> Image {
+    with_regions(&[[0x1000, 0x100000, 0x2000, 0, 0x200000]])
+}
+
+/// An image of AArch64 with these platforms, each with mask, type and version, and a policy of this mask.
+fn with_policy(platforms: &[[u64; 3]], mask: u64) -> Image {
+    let platform = |&[mask, typ, version]: &[u64; 3]| Row::new(1, &[mask, 0, typ, version, 0]);
+    Image::new(1, [platforms.iter().map(platform).collect(), vec![Row::new(17, &[mask, 0, 0])], vec![]])
+}
+
+/// An image of X64 with these regions, a context for every bit, and these directives.
+fn with_rows(initializations: Vec<Row>, directives: Vec<Row>) -> Image {
+    Image::new(0, [vec![native()], initializations, [vec![vbs(0, 0xFFFF_FFFF, 0)], directives].concat()])
+}
+
+/// Images chosen for what the report on them shows. Platforms: one that is skipped would have been the last of its mask, and would have ended 25 or brought it, by
+/// 10 and by 14; and one whose type only a skipped one has. Regions: a page table is skipped by 27, 28, 29 or 26, and one behind it that
+/// shares a bit is not; a region is skipped by 29 under one of its bits, and one behind it that shares only the others is not. Areas: one that only a skipped row
+/// allocates is used, and allocated then; an insert in a page table, and then others; an insert in a page table that is skipped; a second
+/// allocation behind an insert. 15: with faulty rows and without, where there is no platform row or each is faulty. 34: a VP index, no context, a context that is
+/// skipped; and none where the region is. Every row faulty; no row; image B.
+fn report_images() -> Vec<Image> {
+    let region = short::region;
+    let mut images = vec![
+        with_policy(&[[1, 6, 1], [1, 1, 2]], 1),
+        with_policy(&[[1, 6, 2], [1, 1, 1]], 1),
+        with_policy(&[[2, 1, 1], [1, 6, 1], [1, 1, 1]], 1),
+        with_policy(&[[1, 6, 1], [2, 6, 1]], 3),
+        with_policy(&[[2, 6, 2], [1, 6, 1]], 1),
+    ];
+    let top = Row::new(19, &[3, TOP, 0x1000, 0, 0, 0]);
+    for first in [page_table(3, 0, 0), top, page_table(3, 0x1000, 0x2000), page_table(5, 0x8000, 0x1000)] {
+        let before = vec![region(1, 0x2000, 0x1000), page_table(4, 0x4000, 0x1000), first];
+        let tables = [page_table(2, 0x6000, 0x1000), page_table(1, 0x7000, 0x1000)];
+        images.push(with_rows([before, tables.to_vec()].concat(), vec![]));
+    }
+    images.push(with_rows([1, 7, 2, 4, 1].map(|mask| region(mask, 0x1000, 0x1000)).to_vec(), vec![]));
+    let (area, a_use) = (|bytes: u64| Row::new(33, &[bytes, 5]), || Row::new(34, &[5, 0]));
+    let insert = |gpa: u64| Row::new(50, &[gpa, 1, 5]);
+    let table = || vec![page_table(1, 0x1000, 0x1000)];
+    images.extend([
+        with_rows(vec![], vec![area(0x1001), a_use(), insert(0), area(0x1000), a_use(), insert(0)]),
+        with_rows(vec![], vec![area(0).with_tail(b"x"), insert(0), area(0), insert(1), insert(0)]),
+        with_rows(table(), vec![area(0), insert(0x1000), a_use(), insert(0x2000), a_use(), insert(0)]),
+        with_rows(vec![Row::new(19, &[1, 0x1000, 0x1000, 0x2000, 0, 0])], vec![area(0), insert(0x1000)]),
+        with_rows(vec![], vec![area(0), insert(0), area(0), a_use(), insert(0)]),
+    ]);
+    let (faulty, vp) = (vec![vsm(3)], Row::new(18, &[1, 0x1000, 0, 0x1000, 0, 0, 0, 1, 0]));
+    let rows = || vec![region(1, 0, 0), Row::new(17, &[1, 0, 0]), region(1, 0, 0x1000)];
+    let page = || Row::new(32, &[0x800, 1, 0, 0]);
+    for (arch, other) in [(0, 1), (1, 0)] {
+        images.extend([
+            Image::new(arch, [vec![], rows(), vec![page(), vbs(arch, 1, 0)]]),
+            Image::new(arch, [faulty.clone(), rows(), vec![page()]]),
+            Image::new(arch, [vec![], vec![region(1, 0, 0x1000)], vec![vbs(arch, 1, 0)]]),
+            Image::new(arch, [vec![vsm(1)], vec![region(1, 0, 0x1000)], vec![vbs(other, 1, 0)]]),
+            Image::new(arch, [vec![vsm(1)], vec![region(1, 0, 0x800)], vec![]]),
+            Image::new(arch, [vec![vsm(1)], vec![vp.clone(), region(1, 0, 0x1000)], vec![vbs(arch, 1, 0)]]),
+            Image::new(arch, [faulty.clone(), vec![region(1, 0, 0)], vec![page(), vbs(other, 1, 0)]]),
+            Image::new(arch, Default::default()),
+        ]);
+    }
+    images.push(image_b());
+    images
+}
+
+/// A sheet of image B for each refusal of reading.
+fn unreadable() -> Vec<Vec<u8>> {
+    let b = image_b();
+    let mut images = [(); 6].map(|()| b.clone());
+    images[0].revision = 3;
+    images[1].counts = Some([1, 65, 1]);
+    images[2].lists[1][0].kind = 20;
+    images[3].lists[1][0].body.push(0);
+    images[4].left_over.push(0);
+    (images[5].revision, images[5].page_size) = (2, 8192);
+    let cut = b.bytes();
+    [vec![cut[..cut.len() - 1].to_vec()], images.iter().map(Image::bytes).collect()].concat()
+}
+
+/// The reports on these images, image B with each length that is lent, what reading refuses with words enough and with too few, and 512 areas, every second row of
+/// which is faulty.
+fn report_cases() -> Result<Vec<Case>, String> {
+    let mut reports: Vec<(Vec<u8>, usize)> = Vec::new();
+    for image in report_images() {
+        let rows = image.rows().count();
+        reports.extend([8 * rows, 8 * rows + 11].map(|lent| (image.bytes(), lent)));
+    }
+    reports.extend([0, 7, 8, 16, 23, 25, 32].map(|lent| (image_b().bytes(), lent)));
+    reports.extend(unreadable().into_iter().flat_map(|sheet| [0, 24].map(|lent| (sheet.clone(), lent))));
+    let half = speed::half_faulty(512).bytes();
+    reports.push((half, 8 * 513));
+    let case = |(sheet, lent): (Vec<u8>, usize)| Case::new(&sheet, &Rust::of(&sheet), Call::Report { lent });
+    reports.into_iter().map(case).collect()
+}
+
+/// Reports on random sheets of several faulty rows, until each sort of report and each refusal of a row, at a first faulty row and at a later one, is there twice.
+fn sample_of_reports(seed: u64) -> Result<Vec<Case>, String> {
+    let (mut cases, mut met) = (Vec::new(), Tally::default());
+    for number in 0..FAULTY {
+        let sheet = faulty::sheet(&mut Random::new(seed, number));
+        if sheet.len() > SMALL {
+            continue;
+        }
+        for call in report::calls(&sheet, paper::verdict(&sheet)[0], Extent::Case(number)) {
+            let (case, mut with) = (Case::new(&sheet, &Rust::of(&sheet), call)?, met.clone());
+            case.report(&mut with);
+            let counts = |tally: &Tally| [tally.reports.counts(), &tally.report_numbers, &tally.first_words, &tally.later_words].concat();
+            if counts(&with).iter().zip(counts(&met)).any(|(&with, met)| met < with && with <= 2) {
+                met = with;
+                cases.push(case);
+            }
+        }
+    }
+    Ok(cases)
+}
+
 /// The verdict on sheets of many directive rows, the queries of one of them, and the strict verdict on another.
 fn large_sheets() -> Result<Vec<Case>, String> {
     let queries = [
@@ -279,19 +406,34 @@ fn large_sheets() -> Result<Vec<Case>, String> {
 }
 
 /// The wrong copies that the sample does not catch: three differ only on sheets of more bytes than it holds, one only where just as many bytes are lent as the
-/// numbers take, which the replay does not do.
-const NOT_CAUGHT: [&str; 4] = ["byte-limit", "bytes-16777216", "bytes-67108865", "numbers-word-more"];
+/// numbers take, which the replay does not do, five only in reports on more rows than the replay has words for, and two only where the words are filled anew for
+/// each number, which it does not do either.
+const NOT_CAUGHT: [&str; 11] = [
+    "byte-limit",
+    "bytes-16777216",
+    "bytes-67108865",
+    "numbers-word-more",
+    "report-1024",
+    "report-34-contexts-1024",
+    "report-areas-1024",
+    "report-faulty-12-bits",
+    "report-rows-13-bits",
+    "which-report-once",
+    "which-report-past",
+];
 
-/// Adds the smallest case for each other wrong copy that the cases do not catch.
+/// Adds the smallest case for each other wrong copy that the cases do not catch. One of a rule must be caught by another call than the report, which has the rules
+/// of the verdict: a library may have them twice.
 fn catch_wrong_copies(seed: u64, cases: &mut Vec<Case>) -> Result<(), String> {
     for (name, _, calls) in wrong::WRONG {
-        if NOT_CAUGHT.contains(name) || cases.iter().any(|case| case.differs(calls)) {
+        let catches = |case: &Case| (case.code() != 8 || name.contains("report")) && case.differs(calls);
+        if NOT_CAUGHT.contains(name) || cases.iter().any(catches) {
             continue;
         }
         let (_, difference) = caught::first_difference(calls, seed, SHEETS).ok_or(format!("record: {name} is not caught"))?;
         let smallest = shrink::smallest(calls, difference);
         let case = Case::new(&smallest.sheet, &Rust::of(&smallest.sheet), smallest.call)?;
-        if smallest.sheet.len() > LARGE || !case.differs(calls) {
+        if smallest.sheet.len() > LARGE || case.answer.lent.len() > LENT || !case.differs(calls) {
             return Err(format!("record: no case for {name} on a sheet of at most {LARGE} bytes"));
         }
         cases.push(case);
@@ -356,6 +498,21 @@ fn every_strict(cases: &[Case]) -> Result<(), String> {
     let (missing, refusals) = (tally.strict.missing(), tally.missing_strict());
     if !missing.is_empty() || !refusals.is_empty() {
         return Err(format!("record: of strict verdicts these are not met: {missing:?}, and refusals {refusals:?}"));
+    }
+    Ok(())
+}
+
+/// Every sort of report, every refusal by it, and every refusal of a row.
+fn every_report(cases: &[Case]) -> Result<(), String> {
+    let mut tally = Tally::default();
+    cases.iter().for_each(|case| case.report(&mut tally));
+    println!("  reports: {}", tally.reports.text());
+    if cases.iter().any(|case| case.answer.lent.len() > LENT) {
+        return Err(format!("record: more than {LENT} bytes are lent"));
+    }
+    let (reports, words) = (tally.reports.missing(), tally.missing_words());
+    if !reports.is_empty() || words.iter().any(|missing| !missing.is_empty()) {
+        return Err(format!("record: of reports these are not met: {reports:?}, and refusals and words: {words:?}"));
     }
     Ok(())
 }
@@ -425,6 +582,15 @@ impl Case {
             number == paper::put(numbers, &mut expected) && lent == expected && words == self.answer.lent
         };
         self.call.is_by_words() || same(8 * numbers.len() + 11) && same(8 * numbers.len() - 1)
+    }
+
+    /// Counts a report.
+    fn report(&self, tally: &mut Tally) {
+        let Call::Report { lent } = self.call else { return };
+        let numbers: report::Numbers = std::array::from_fn(|which| self.answer.numbers[which]);
+        let words = report::words(&self.answer.lent, numbers[5] as usize);
+        let asked = Headers::decode(&self.sheet).filter(|_| self.answer.by.is_rust()).map(|headers| headers.rows_in_domain());
+        tally.report(&self.sheet, lent, &Answered { numbers, words, asked });
     }
 
     /// The refusal's number.
@@ -570,7 +736,7 @@ impl Case {
         bytes
     }
 
-    /// Who answered, the call, every number, of a region list the lent bytes afterwards, eight to a group, and that the sibling's answer is the same.
+    /// Who answered, the call, every number, the lent bytes afterwards, eight to a group, and that the sibling's answer is the same.
     fn line(&self) -> String {
         let who = self.answered().1;
         let call = match self.call {
@@ -588,7 +754,7 @@ impl Case {
         };
         let numbers: String = self.answer.numbers.iter().map(|number| format!(" {number}")).collect();
         let bytes: String = self.answer.lent.chunks(8).map(|group| format!(" {}", hex(group))).collect();
-        let bytes = if let Call::Relocations { .. } = self.call { format!(" bytes{bytes}") } else { bytes };
+        let bytes = if bytes.is_empty() { bytes } else { format!(" bytes{bytes}") };
         let all = if self.call.is_by_words() { "" } else { " all same" };
         format!("{who} {call}:{numbers}{bytes}{all}\n")
     }
