@@ -1,5 +1,5 @@
 // Makes the calls that a file holds, number by number as a host does, and writes a line for each: who gave the answer that it is held to, the call, its
-// numbers, of a region list the lent bytes afterwards, and whether the call's sibling gives all of that at once.
+// numbers, the lent bytes afterwards, and whether the call's sibling gives all of that at once.
 ghost use Prim.Native.Nat.{_*_, _<_, _≤_};
 ghost use lib.ListN.{length};
 use libc::STDOUT_FILENO;
@@ -15,6 +15,7 @@ fn ask(c: Call, sheet: &[u8], lent: &mut [u8], which: u32) -> u64 {
         5 => igvm::igvm_region_contains(sheet, c.value),
         6 => igvm::igvm_relocation_base_range(sheet, c.mask, c.region, c.value, c.highest, which),
         7 => igvm::igvm_strict_verdict(sheet, which),
+        8 => igvm::igvm_report(sheet, lent, which),
         _ => igvm::igvm_contains(sheet, c.mask, c.region, c.value, which),
     }
 }
@@ -36,6 +37,7 @@ fn ask_all(c: Call, sheet: &[u8], words: &mut [u8], numbers: &mut [u8]) -> u64 {
             numbers,
         ),
         7 => igvm::igvm_strict_verdict_numbers(sheet, numbers),
+        8 => igvm::igvm_report_numbers(sheet, words, numbers),
         _ => igvm::igvm_contains_numbers(sheet, c.mask, c.region, c.value, numbers),
     }
 }
@@ -129,11 +131,11 @@ fn write_bytes(b: &[u8]) {
     }
 }
 
-// The rest of the line, after its numbers: of a region list the lent bytes, and of a call that has a sibling how the two compare.
+// The rest of the line, after its numbers: the lent bytes, where there are any, and of a call that has a sibling how the two compare.
 fn finish(c: Call, sheet: &[u8], lent: &[u8], found: &[u64])
     requires { ⌜ (c .numbers ≤ 11) × (c .numbers ≤ length (now found)) × (length (now lent) ≤ 4224) ⌝ }
 {
-    if c.code == 1 {
+    if 0 < lent.len() {
         write(b" bytes");
         write_bytes(lent);
     }

@@ -8,7 +8,7 @@ use libc::STDOUT_FILENO;
 
 // The head of a record.
 pub struct Call {
-    // 0 verdict, 1 relocations, 2 relocation_base_valid, 4 region_base_valid, 5 region_contains, 6 relocation_base_range, 7 strict_verdict, else contains
+    // 0 verdict, 1 relocations, 2 relocation_base_valid, 4 region_base_valid, 5 region_contains, 6 relocation_base_range, 7 strict_verdict, 8 report, else contains
     pub code: u8,
     // 0 document 01, 1 the Rust, 2 the Rust and document 02, else document 02
     pub answered: u8,
@@ -79,6 +79,7 @@ fn write_call(c: Call) {
             write_number(b" highest ", c.highest);
         }
         7 => write(b"strict_verdict"),
+        8 => write_number(b"report lent ", c.lent as u64),
         _ => write_region(b"contains", c, b" gpa "),
     }
 }
@@ -100,6 +101,7 @@ fn numbers(code: u8) -> u32
         0 | 7 => 7,
         1 => 11,
         4 | 5 => 1,
+        8 => 8,
         _ => 5,
     }
 }
