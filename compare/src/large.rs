@@ -36,7 +36,8 @@ pub fn sheet(random: &mut Random) -> Vec<u8> {
         8..=9 => {
             let list = random.below(6);
             faulty::break_row(random, &mut image, list.min(2));
-            faults(random, &mut image.lists[2]);
+            let [_, initializations, directives] = &mut image.lists;
+            faults(random, initializations, directives);
         }
         _ => generate::change(random, &mut image),
     }
@@ -220,15 +221,18 @@ fn fault(random: &mut Random, rows: &mut [Row]) {
     };
 }
 
-/// From one row in a thousand up to every second one become such as may be refused: by 32 where rows before name the area otherwise, or by themselves.
-fn faults(random: &mut Random, rows: &mut [Row]) {
+/// From one row in a thousand up to every second one become such as may be refused: by 32 where rows before name the area otherwise, by 33 where there is a page table, or by
+/// themselves.
+fn faults(random: &mut Random, initializations: &[Row], rows: &mut [Row]) {
     let one_in = random.pick(&[2, 3, 10, 100, 1000]);
+    let table = initializations.iter().find(|row| row.kind == 19);
+    let (place, mask) = table.map_or((0x7000_0000, 0), |table| (table.get("gpa").unwrap_or(0), table.get("mask").unwrap_or(0)));
     let (mut allocated, mut inserted) = (Vec::new(), Vec::new());
     for row in rows {
         if random.one_in(one_in) {
             let any = random.next() & 0xFFFF_FFFF;
             let (named, done) = (any_of(random, &allocated).unwrap_or(any), any_of(random, &inserted).unwrap_or(any));
-            *row = match random.below(8) {
+            *row = match random.below(9) {
                 0 => Row::new(33, &[0x1000, named]),
                 1 => a_use(random, done),
                 2 => Row::new(50, &[0x7000_0000, 0, done]),
@@ -236,6 +240,7 @@ fn faults(random: &mut Random, rows: &mut [Row]) {
                 4 => Row::new(33, &[0x1001, any]),
                 5 => Row::new(33, &[0x1000, done]),
                 6 => Row::new(51, &[0x800, 1, 0]),
+                7 => Row::new(50, &[place, mask, named]),
                 _ => Row::new(50, &[0x801, 0, named]),
             };
         }

@@ -230,11 +230,14 @@ fn faulty_sheets(calls: &Calls, o: &Options) -> Result<Tally, String> {
 /// One large sheet for so many others: it takes some 300 times as long.
 const LARGE_SHARE: u64 = 1000;
 
-/// Large sheets, but no fewer than 100. Of those with many areas some must be accepted and some refused by 32.
+/// Large sheets, but no fewer than 100. Of those with many areas some must be accepted and some refused by 32, and some reports must have many faulty rows.
 fn large_sheets(calls: &Calls, o: &Options) -> Result<Tally, String> {
     let tally = sheets_of(calls, o, run::Sort::Large, (o.cases / LARGE_SHARE).max(100))?;
     if tally.areas_verdicts[0] == 0 || tally.areas_verdicts[32] == 0 {
         return Err("large sheets with many areas: none was accepted, or none refused by 32".into());
+    }
+    if tally.later_words[32] < tally.cases {
+        return Err("large sheets: fewer faulty rows by 32 than sheets".into());
     }
     Ok(tally)
 }
