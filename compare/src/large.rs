@@ -221,8 +221,8 @@ fn fault(random: &mut Random, rows: &mut [Row]) {
     };
 }
 
-/// From one row in a thousand up to every second one become such as may be refused: by 32 where rows before name the area otherwise, by 33 where there is a page table, or by
-/// themselves.
+/// From one row in a thousand up to every second one become such as may be refused: by 32 where rows before name the area otherwise, by 33 where there is a page
+/// table, or by themselves.
 fn faults(random: &mut Random, initializations: &[Row], rows: &mut [Row]) {
     let one_in = random.pick(&[2, 3, 10, 100, 1000]);
     let table = initializations.iter().find(|row| row.kind == 19);

@@ -434,9 +434,9 @@ pub fn strict_verdict(s: &[u8]) -> [u64; 6] {
     verdict_numbers(strictly_accepted(s))
 }
 
-// ---- the report (document 02, request 2): of each row the refusal that it meets where the faulty rows before it are left out; 1 to 7, then 37
+// ---- the report (document 02, request 2): of each row the refusal that it meets where the faulty rows before it are skipped; 1 to 7, then 37
 
-/// The rows that are not left out, as far as later ones are judged by them.
+/// The rows that are not skipped, as far as later ones are judged by them.
 #[derive(Default)]
 struct Kept<'a> {
     platforms: Vec<&'a Row<'a>>,
@@ -477,7 +477,7 @@ struct Told {
     no_context: bool,
 }
 
-/// A row that has a fault is not kept, and leaves no trace.
+/// A row that has a fault is skipped: it leaves no trace.
 fn tell(sheet: &Sheet) -> Told {
     let (mut kept, mut words) = (Kept::default(), Vec::new());
     for row in sheet.platforms.iter().chain(&sheet.initializations).chain(&sheet.directives) {

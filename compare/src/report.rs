@@ -164,8 +164,8 @@ pub struct Answered {
     pub asked: Option<Vec<bool>>,
 }
 
-/// Of refusals; of sheets by how many rows are faulty and where; of 15; of 34; of rows that a faulty row before them would have changed if it had left a trace: for each rule one or
-/// more; and of reports that were compared with the Rust.
+/// Of refusals; of sheets by how many rows are faulty and where; of 15; of 34; of rows that are judged otherwise where a faulty row before them leaves a trace, for
+/// each rule one or more; and of reports that were compared with the Rust.
 const COLUMNS: [&str; 46] = [
     "1 to 7, too few words",
     "37, one word too few",
@@ -195,15 +195,15 @@ const COLUMNS: [&str; 46] = [
     "34, no context",
     "34, its context skipped",
     "no 34, the region skipped",
-    "14, no more: the earlier platform of the type skipped",
+    "no 14, the earlier platform of the type skipped",
     "25, the CCA platform of the bit skipped",
-    "25, no more: a later platform of the bit skipped",
-    "26, no more: the earlier page table skipped",
-    "29, no more: the earlier region skipped",
-    "29, no more: the earlier region skipped by 29",
-    "33, no more: the page table skipped",
+    "no 25, a later platform of the bit skipped",
+    "no 26, the earlier page table skipped",
+    "no 29, the earlier region skipped",
+    "no 29, the earlier region skipped by 29",
+    "no 33, the page table skipped",
     "32, the allocation skipped",
-    "32, no more: the earlier allocation skipped",
+    "no 32, the earlier allocation skipped",
     "32, allocated anew behind its insert, and used",
     "33, and then inserted",
     "33, and then used",
@@ -450,7 +450,7 @@ impl Columns for Reports {
 
 // ---- plain Rust
 
-/// The report by plain Rust: its verdict, and where that names a fault that is not of reading, one more pass that leaves faulty rows out. It stands here and not in
+/// The report by plain Rust: its verdict, and where that names a fault that is not of reading, one more pass that skips faulty rows. It stands here and not in
 /// plain.rs for the reason that `region::by_plain` has.
 #[inline(never)]
 pub fn by_plain(sheet: &[u8], lent: &mut [u8]) -> Numbers {
