@@ -4,7 +4,7 @@ use crate::compare::{check, Call, Extent, Rust};
 use crate::library::LIBRARY;
 use crate::random::Random;
 use crate::sheet::hex;
-use crate::{generate, large, line, paper, plain, plan, report, strict};
+use crate::{faulty, generate, large, line, paper, plain, plan, report, strict};
 use calls::Calls;
 use std::fs;
 use std::path::Path;
@@ -34,16 +34,30 @@ pub fn replay(calls: &Calls, folder: &str) -> Result<(), String> {
     Ok(())
 }
 
-/// Random sheets in hexadecimal digits, each with its line by the verdict and by the strict one, for a comparison outside this program; one large sheet for
-/// 500 others.
+/// Random sheets in hexadecimal digits, each with its line by the verdict, by the strict one and by the report, for a comparison outside this program; one sheet
+/// of several faulty rows for four others, and one large one for 500.
 pub fn emit(seed: u64, cases: u64) -> Result<(), String> {
     let sheets = (0..cases).map(|case| generate::sheet(&mut Random::new(seed, case)));
+    let faulty = (0..cases / 4).map(|case| faulty::sheet(&mut Random::new(seed, case)));
     let large = (0..cases / 500).map(|case| large::sheet(&mut Random::new(seed, case)));
-    for sheet in sheets.chain(large) {
+    for sheet in sheets.chain(faulty).chain(large) {
         let [verdict, strict] = [Call::Verdict, Call::StrictVerdict].map(|call| line(&paper::CALLS, call, &sheet));
-        println!("{} {verdict}; {strict}", hex(&sheet));
+        println!("{} {verdict}; {strict}; {}", hex(&sheet), report_line(&sheet));
     }
     Ok(())
+}
+
+/// The line of a report by document 01: how many rows are faulty and of how many, the number and the row of each, and 15 and 34 with row 0 where they are told.
+fn report_line(sheet: &[u8]) -> String {
+    let mut lent = vec![0; 8 * report::rows(sheet)];
+    let [number, row, detail, no_platform, no_context, rows, faulty] = paper::report(sheet, &mut lent);
+    if number != 0 {
+        return format!("refused {number} row {row} detail {detail}");
+    }
+    let words = report::words(&lent, lent.len()).into_iter().zip(1..).filter(|(word, _)| *word != 0);
+    let told = [(no_platform, 15), (no_context, 34)].into_iter().filter(|(told, _)| *told == 1).map(|(_, number)| (number, 0));
+    let faults: String = words.chain(told).map(|(number, row)| format!(", {number} row {row}")).collect();
+    format!("reported {faulty} of {rows}{faults}")
 }
 
 /// What each says of one sheet.
