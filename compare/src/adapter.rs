@@ -5,7 +5,7 @@ use crate::compare::{Call, Difference, Rust};
 use crate::random::Random;
 use crate::run::{on_threads, Run};
 use crate::sheet::{fields_length, hex, kinds, Image, Row};
-use crate::{generate, large, paper, plan, short, shrink};
+use crate::{generate, large, paper, plan, report, short, shrink};
 use calls::Calls;
 use oracle::Headers;
 
@@ -113,11 +113,12 @@ impl<'a> Seen<'a> {
         self.answers(random, &sheet, &Rust::of_headers(Some(headers)))
     }
 
-    /// The two verdicts and two region lists, by the calls and by crate sapyullu.
+    /// The two verdicts, the report and two region lists, by the calls and by crate sapyullu.
     fn answers(&mut self, random: &mut Random, sheet: &[u8], rust: &Rust) -> Result<(), String> {
         let text = |difference: Difference| shrink::text(&difference);
         let number = self.run.verdict(sheet, rust, random.next()).map_err(text)?;
         host::same_verdicts(sheet)?;
+        host::same_report(sheet)?;
         if number != 0 {
             return Ok(());
         }
@@ -140,7 +141,7 @@ fn text(place: &str, what: &str, decoded: &[u8]) -> String {
     format!("DIFFERENCE in {place} by the adapter\n{what}\n  the headers are of the sheet of {} bytes: {digits}", decoded.len())
 }
 
-/// The adapter's sheet has the head, the rows and the two verdicts of the sheet that the headers were decoded from.
+/// The adapter's sheet has the head, the rows, the two verdicts and the report of the sheet that the headers were decoded from.
 fn same_rows(decoded: &[u8], made: &[u8]) -> Result<(), String> {
     let (Some(mut expected), Some(image)) = (Image::parse(decoded), Image::parse(made)) else {
         return Err("the adapter's sheet has no head or no table".into());
@@ -159,7 +160,17 @@ fn same_rows(decoded: &[u8], made: &[u8]) -> Result<(), String> {
             return Err(format!("document 01 says {by_made:?} of the adapter's sheet, {by_decoded:?} of the other"));
         }
     }
+    let [by_decoded, by_made] = [decoded, made].map(report_by_paper);
+    if by_decoded != by_made {
+        return Err(format!("document 02 reports {by_made:?} of the adapter's sheet, {by_decoded:?} of the other"));
+    }
     Ok(())
+}
+
+/// Document 02's report: its numbers and its words.
+fn report_by_paper(sheet: &[u8]) -> (report::Numbers, Vec<u64>) {
+    let mut lent = vec![0; 8 * report::rows(sheet)];
+    (paper::report(sheet, &mut lent), report::words(&lent, lent.len()))
 }
 
 /// The row as the adapter writes it: what no decision looks at is 0 or is left out, and a code without a name is the highest.
@@ -179,11 +190,11 @@ fn as_adapted(row: &mut Row) {
 /// The functions of crate sapyullu, and the methods of its regions.
 #[cfg(library)]
 mod host {
-    use super::made;
+    use super::{made, report_by_paper};
     use crate::random::Random;
-    use crate::{paper, plan, ranges};
+    use crate::{paper, plan, ranges, report};
     use oracle::{IgvmRelocatableRegion, Relocated};
-    use sapyullu::{BaseCheck, Counts, List, PageTableRegion, Place, Refusal};
+    use sapyullu::{BaseCheck, Counts, List, PageTableRegion, Place, Refusal, Reported};
 
     /// The verdict and the strict verdict are document 01's.
     pub fn same_verdicts(sheet: &[u8]) -> Result<(), String> {
@@ -209,6 +220,43 @@ mod host {
             return Err(format!("refuses row {row} at {:?}", refusal.place));
         }
         Ok([refusal.error.number(), row, refusal.detail, 0, 0, 0])
+    }
+
+    /// The report is document 02's: `report` with each faulty row's error and place, and `report_into` with words and a byte behind them; with a byte less it is refused.
+    /// Either is accepted where the verdict is.
+    pub fn same_report(sheet: &[u8]) -> Result<(), String> {
+        let (numbers, words) = report_by_paper(sheet);
+        let by_paper = [numbers[3], numbers[4], numbers[5], numbers[6]];
+        let differ = |what: String| Err(format!("{what}; document 02 reports {numbers:?} with {words:?}"));
+        let report = match sapyullu::report(sheet) {
+            Ok(report) => report,
+            Err(refusal) if [refusal.error.number(), refusal.row.unwrap_or(0), refusal.detail] == numbers[..3] => return Ok(()),
+            Err(refusal) => return differ(format!("sapyullu::report refuses by {refusal:?}")),
+        };
+        let faulty = |faulty: &sapyullu::FaultyRow| (faulty.row, faulty.error.number(), faulty.place);
+        let faults: Vec<(u64, u64, Option<Place>)> = report.faulty.iter().map(faulty).collect();
+        let expected = (1..).zip(&words).filter(|(_, word)| **word != 0).map(|(row, &word)| (row, word, place(sheet, row)));
+        let told = [report.no_platform.into(), report.no_context.into(), report.rows, faults.len() as u64];
+        if numbers[0] != 0 || told != by_paper || !expected.eq(faults) || report.is_accepted() != (paper::verdict(sheet)[0] == 0) {
+            return differ(format!("sapyullu::report says {report:?}"));
+        }
+        let mut lent = vec![0xA5; 8 * words.len() + 1];
+        let into = sapyullu::report_into(sheet, &mut lent);
+        let Ok(Reported { rows, faulty_rows, no_platform, no_context }) = into else {
+            return differ(format!("sapyullu::report_into refuses by {into:?}"));
+        };
+        if [no_platform.into(), no_context.into(), rows, faulty_rows] != by_paper
+            || report::words(&lent, words.len()) != words
+            || lent.last() != Some(&0xA5)
+        {
+            return differ(format!("sapyullu::report_into says {into:?} with {lent:?}"));
+        }
+        let too_few = lent.get_mut(..(8 * words.len()).saturating_sub(1)).map(|lent| sapyullu::report_into(sheet, lent));
+        match too_few {
+            Some(Err(refusal)) if refusal.error.number() == 37 => Ok(()),
+            Some(Ok(_)) if words.is_empty() => Ok(()),
+            other => differ(format!("sapyullu::report_into says {other:?} where a byte less is lent than the words take")),
+        }
     }
 
     /// The list of a row and its index there.
@@ -289,6 +337,10 @@ mod host {
     use oracle::Relocated;
 
     pub fn same_verdicts(_: &[u8]) -> Result<(), String> {
+        Ok(())
+    }
+
+    pub fn same_report(_: &[u8]) -> Result<(), String> {
         Ok(())
     }
 
