@@ -17,7 +17,7 @@
 #define ROW_WORDS ((size_t)8 * IGVM_MAX_ROWS)
 #define PAINT 0xA5
 
-/* On an image that names few areas every call takes less stack than this. */
+/* On an image that names few areas, and has no faulty row, every call takes less stack than this. */
 #define FEW_AREAS_STACK 24576
 
 static char **files;
@@ -401,6 +401,8 @@ static size_t stack_of_image(const char *what, uint64_t number, uint64_t row, si
 static size_t stack_of_images(void) {
     put_b();
     stack_of_image("image B", IGVM_ACCEPTED, 0, FEW_AREAS_STACK);
+    image[16 + 8 * 3] = 3; /* the mask of the platform, behind head and table */
+    stack_of_image("image B with a faulty row", IGVM_ERROR_INVALID_COMPATIBILITY_MASK, 1, IGVM_STACK_BYTES);
     put_areas(1024, 0);
     stack_of_image("1,024 areas", IGVM_ACCEPTED, 0, FEW_AREAS_STACK);
     put_areas(IGVM_MAX_DIRECTIVE_ROWS, 0);
