@@ -9,11 +9,11 @@
 //! The rows are shown as far as they can be read; it is the library that judges, with `--strict` by the strict verdict. Exit status: 0 accepted, 1 refused, 2 no
 //! sheet could be read.
 
+mod command;
+
 use sapyullu::{strict_verdict, verdict, Place};
 use std::ffi::OsString;
-use std::fs;
 use std::io::{self, Read, Write};
-use std::path::Path;
 use std::process::ExitCode;
 
 /// How a field's number is shown.
@@ -209,32 +209,14 @@ fn explain(sheet: &[u8], strict: bool, out: &mut impl Write) -> io::Result<bool>
     Ok(answer.is_ok())
 }
 
-/// The bytes of the file that is named, or of the input where none is.
-fn sheet(arguments: &[OsString], input: &mut impl Read) -> io::Result<Vec<u8>> {
-    match arguments {
-        [] => {
-            let mut bytes = Vec::new();
-            input.read_to_end(&mut bytes)?;
-            Ok(bytes)
-        }
-        [file] => fs::read(file).map_err(|error| io::Error::new(error.kind(), format!("{}: {error}", Path::new(file).display()))),
-        _ => Err(io::Error::new(io::ErrorKind::InvalidInput, "usage: explain [--strict] [FILE], or explain [--strict] < FILE")),
-    }
-}
-
 /// The exit status.
 pub fn run(arguments: &[OsString], input: &mut impl Read, out: &mut impl Write) -> u8 {
     let (strict, file) = match arguments {
         [first, rest @ ..] if first == "--strict" => (true, rest),
         all => (false, all),
     };
-    match sheet(file, input).and_then(|sheet| explain(&sheet, strict, out)) {
-        Ok(accepted) => u8::from(!accepted),
-        Err(error) => {
-            eprintln!("{error}");
-            2
-        }
-    }
+    let sheet = command::sheet(file, input, "explain [--strict] [FILE], or explain [--strict] < FILE");
+    command::exit_status(sheet.and_then(|sheet| explain(&sheet, strict, out)))
 }
 
 fn main() -> ExitCode {

@@ -9,11 +9,11 @@
 //! Behind the rows stands what is wrong with the sheet as a whole, where only the rows that are not faulty count, and last how many rows are faulty. Exit status: 0
 //! nothing is wrong, 1 something is, 2 no sheet could be read.
 
+mod command;
+
 use sapyullu::{report, Error};
 use std::ffi::OsString;
-use std::fs;
 use std::io::{self, Read, Write};
-use std::path::Path;
 use std::process::ExitCode;
 
 /// What is wrong, and what to do about it.
@@ -45,28 +45,10 @@ fn write_report(sheet: &[u8], out: &mut impl Write) -> io::Result<bool> {
     Ok(found.is_accepted())
 }
 
-/// The bytes of the file that is named, or of the input where none is.
-fn sheet(arguments: &[OsString], input: &mut impl Read) -> io::Result<Vec<u8>> {
-    match arguments {
-        [] => {
-            let mut bytes = Vec::new();
-            input.read_to_end(&mut bytes)?;
-            Ok(bytes)
-        }
-        [file] => fs::read(file).map_err(|error| io::Error::new(error.kind(), format!("{}: {error}", Path::new(file).display()))),
-        _ => Err(io::Error::new(io::ErrorKind::InvalidInput, "usage: report [FILE], or report < FILE")),
-    }
-}
-
 /// The exit status.
 pub fn run(arguments: &[OsString], input: &mut impl Read, out: &mut impl Write) -> u8 {
-    match sheet(arguments, input).and_then(|sheet| write_report(&sheet, out)) {
-        Ok(accepted) => u8::from(!accepted),
-        Err(error) => {
-            eprintln!("{error}");
-            2
-        }
-    }
+    let sheet = command::sheet(arguments, input, "report [FILE], or report < FILE");
+    command::exit_status(sheet.and_then(|sheet| write_report(&sheet, out)))
 }
 
 fn main() -> ExitCode {
