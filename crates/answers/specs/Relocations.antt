@@ -29,6 +29,10 @@ sheetInitializations s = sheetHeaders s .initializations
 unfoldable pub maskFault : ℕ → Fault
 maskFault given = refuse (eqb given 0) (fault 35 0) noFault
 
+-- what every query is refused by first: the verdict's refusal, then 35
+unfoldable pub queryRefusal : Limits → List ℕ → ℕ → Refusal
+queryRefusal l s given = orElse (verdictRefusal l s) (inRow 0 (maskFault given))
+
 -- ---- the region list, into lent bytes
 
 -- 37: fewer words lent than eight a region. Bytes short of a word don't count

@@ -6,6 +6,7 @@ pub mod Directives
 pub mod Headers
 pub mod Verdict
 pub mod Relocations
+pub mod Owner
 pub mod Accepted
 pub mod Reordered
 pub mod Sound
