@@ -7,6 +7,7 @@ pub mod Within
 pub mod QueryLaws
 pub mod Order
 pub mod SoundLaws
+pub mod OwnerLaws
 pub mod StrictLaws
 pub mod SameRules
 pub mod KeptLaws
