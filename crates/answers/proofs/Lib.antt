@@ -1,6 +1,7 @@
 pub mod AnswerLaws
 pub mod StrictLaws
 pub mod ReportLaws
+pub mod OwnerLaws
 pub mod BaseLaws
 pub mod BaseRangeLaws
 pub mod NumberLaws
