@@ -53,6 +53,10 @@ module _ (l : Limits) (s : List ℕ) (given : ℕ) where
   unfolding regionOwnerOf
   owner-given gpa e = rw (e, query-none e)
 
+-- so mask 0 is refused, and by the same in either call
+pub zero-refused : (l : Limits) (s : List ℕ) → isRefusal (queryRefusal l s 0) ≡ true
+zero-refused l s = elim (which (isRefusal (queryRefusal l s 0))) [ inl e ↦ e | inr e ↦ absurd (query-says l s 0 .0 e .1 refl) ]
+
 -- how many regions of either kind the mask has
 abbrev pub ownersOf : List ℕ → ℕ → ℕ
 ownersOf s given = indexCount (sheetInitializations s) given
@@ -95,6 +99,10 @@ module _ (l : Limits) (s : List ℕ) (given bytes : ℕ) where
   pub index-given : isRefusal (indexRefusal l s given bytes) ≡ false → regionIndexOf l s given bytes ≡ answered noRefusal (ownersOf s given)
   unfolding regionIndexOf
   index-given e = rw (e, index-none e)
+
+  -- no byte is needed where the mask has no region
+  pub index-empty : isRefusal (queryRefusal l s given) ≡ false → ownersOf s given ≡ 0 → regionIndexOf l s given bytes ≡ answered noRefusal 0
+  index-empty q e = index-given (index-says .1 (q, omega arith)) ∙ rw e
 
 -- ---- the lent bytes
 

@@ -1,3 +1,4 @@
 mod RegionLaws
 mod WordLaws
 pub mod AgreementLaws
+pub mod LookupLaws

@@ -34,6 +34,11 @@ le-part n m b w o l =
     sum-cong w _ _ (λ k g. ap (λ x. 256 ^ k * x)
     (getD-take n (drop m b) (o + k) 0 (omega arith) ∙ getD-drop m b (o + k) 0 ∙ ap (λ j. byteAt b j) (omega arith)))
 
+-- the word at o of the first n bytes
+pub le-front : (n : ℕ) (b : List ℕ) (w o : ℕ) → o + w ≤ n → leAt w (take n b) o ≡ leAt w b o
+unfolding leAt
+le-front n b w o l = sum-cong w _ _ (λ k g. ap (λ x. 256 ^ k * x) (getD-take n b (o + k) 0 (omega arith)))
+
 -- ---- the words of a region
 
 flag-bound : (t : Bool) (n : ℕ) → cond t n 0 ≤ n
