@@ -5,7 +5,7 @@ use Rattle.sheet.{specs.Head.Limits, specs.Read.{Readable, sheetRefusal}, proof
 use Rattle.sheet_headers.specs.Headers.{sheetHeaders}
 use Rattle.masks.specs.Masks.{matches}
 use Rattle.initialization_header.{specs.declared.IgvmInitializationHeader.IgvmInitializationHeader, specs.Fields.{initializationFields, kindNumber}}
-use Rattle.rules.{specs.declared.PageTableRegion.PageTableRegion, specs.Relocations.{isRelocatable, relocatableOf, regionCount, regionAt}, specs.Options.then, proofs.FaultLaws.{refuse-none, else-none}, proofs.VerdictLaws.headers-none}
+use Rattle.rules.{specs.declared.PageTableRegion.PageTableRegion, specs.Accepted.NotRefused, specs.Relocations.{isRelocatable, relocatableOf, regionCount, regionAt}, specs.Options.then, proofs.FaultLaws.{refuse-none, else-none}, proofs.VerdictLaws.headers-none}
 use Rattle.answers.specs.{declared.Answered.Answered, Verdict.verdictRefusal, Relocations.{sheetInitializations, maskFault, wordsFault, relocationsRefusal, foundOf, regionFault, checkRefusal}}
 
 -- a named answer, by its refusal and its number
@@ -16,6 +16,11 @@ answered refusal answer = record { refusal = refusal; answer = answer }
 pub accepted-readable : (l : Limits) (s : List ℕ) → isRefusal (verdictRefusal l s) ≡ false → Readable l s
 unfolding verdictRefusal
 accepted-readable l s v = sheet-says l s .0 (else-none (sheetRefusal l s) _ .0 v .0) .0
+
+-- and its headers meet none of 8 to 34
+pub accepted-headers : (l : Limits) (s : List ℕ) → isRefusal (verdictRefusal l s) ≡ false → NotRefused (sheetHeaders s)
+unfolding verdictRefusal
+accepted-headers l s v = else-none (sheetRefusal l s) _ .0 v .1
 
 -- the refusal of an accepted sheet has no row and no detail
 pub accepted-none : (l : Limits) (s : List ℕ) → isRefusal (verdictRefusal l s) ≡ false → verdictRefusal l s ≡ noRefusal

@@ -5,11 +5,11 @@ use Rattle.igvm_defs.{specs.Refusals.{refusal, noRefusal, noFault, isFault, isR
 use Rattle.addresses.specs.Addresses.{contains}
 use Rattle.le.specs.Le.{leAt}
 use Rattle.lent.{specs.Lent.wordsPut, proofs.LentLaws.{words-none, words-length, words-keep, put-word-is}}
-use Rattle.sheet.{specs.Head.Limits, specs.Read.sheetRefusal}
+use Rattle.sheet.specs.Head.{Limits}
 use Rattle.sheet_headers.specs.Headers.{sheetHeaders}
-use Rattle.rules.{specs.declared.Region.Region, specs.Headers.Headers, specs.Accepted.NotRefused, specs.Regions.{regionOf, regionPasses}, specs.Owner.{ownsAddress, numberOfRow, ownerOf, indexCount, startsBelow, byStart, indexWord}, proofs.RegionLaws.region-passes, proofs.FaultLaws.{refuse-none, else-none}, proofs.SoundLaws.accepted-sound, proofs.OwnerLaws.{owns-says, owner-once, owner-is, owner-none, place-below, starts-ascend, start-word, size-word, row-word, by-start-is, by-start-some}}
+use Rattle.rules.{specs.declared.Region.Region, specs.Headers.Headers, specs.Accepted.NotRefused, specs.Regions.{regionOf, regionPasses}, specs.Owner.{ownsAddress, numberOfRow, ownerOf, indexCount, startsBelow, byStart, indexWord}, proofs.RegionLaws.region-passes, proofs.FaultLaws.{refuse-none, else-none}, proofs.SoundLaws.accepted-sound, proofs.OwnerLaws.{owns-says, owner-once, owner-is, owner-none, place-below, starts-ascend, start-word, size-word, row-word, by-start-is, by-start-some, place-small}}
 use Rattle.answers.specs.{Verdict.verdictRefusal, Relocations.{sheetInitializations, maskFault, queryRefusal}, Owner.{regionOwnerOf, indexFault, indexRefusal, regionIndexOf, indexAfter, startIn, sizeIn, rowIn, endsAt, answerAt, regionIn}}
-use Rattle.answers.proofs.AnswerLaws.{answered}
+use Rattle.answers.proofs.AnswerLaws.{answered, accepted-headers}
 
 -- ---- what refuses them
 
@@ -18,11 +18,6 @@ module _ (l : Limits) (s : List ℕ) where
   pub mask-zero : queryRefusal l s 0 ≡ cond (isRefusal (verdictRefusal l s)) (verdictRefusal l s) (refusal 35 0 0)
   unfolding queryRefusal maskFault orElse inRow isFault
   mask-zero = refl
-
-  -- the headers of an accepted sheet are not refused
-  pub accepted-headers : isRefusal (verdictRefusal l s) ≡ false → NotRefused (sheetHeaders s)
-  unfolding verdictRefusal
-  accepted-headers v = else-none (sheetRefusal l s) _ .0 v .1
 
 module _ (l : Limits) (s : List ℕ) (given : ℕ) where
   -- not refused: the file is accepted and the mask is not 0
@@ -134,6 +129,18 @@ module _ (l : Limits) (s : List ℕ) (given : ℕ) (b : List ℕ) where
       let (_, room) = index-says l s given (length b) .0 e in
       rw e
       (rw zero-add at (put-word-is 0 (3 * ownersOf s given) w (indexWord (sheetHeaders s) given) b (rw zero-add (omega arith)) below (rw zero-add small)))
+
+  -- so are the start and the size at place k
+  pub place-there : isRefusal (indexRefusal l s given (length b)) ≡ false → (k : ℕ) → k < ownersOf s given
+      → (startIn (indexAfter l s given b) k ≡ indexWord (sheetHeaders s) given (3 * k))
+      × (sizeIn (indexAfter l s given b) k ≡ indexWord (sheetHeaders s) given (3 * k + 1))
+  place-there e k below =
+      let (q, _) = index-says l s given (length b) .0 e in
+      let (v, n) = query-says l s given .0 q in
+      let (start, size) = place-small (sheetHeaders s) (accepted-headers l s v) given n k below in
+      let y : 24 * k ≡ 8 * (3 * k) = omega arith in
+      let z : 24 * k + 8 ≡ 8 * (3 * k + 1) = omega arith in
+      (rw y (word-there e (3 * k) (omega arith) start), rw z (word-there e (3 * k + 1) (omega arith) size))
 
 -- ---- the lookup in the words of an index
 

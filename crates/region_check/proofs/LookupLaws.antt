@@ -3,8 +3,8 @@ use Rattle.rows.proofs.Kit.{ℕ, _+_, _*_, _/_, _%_, _<_, _≡_, sym, ap, _∙_
 use Rattle.igvm_defs.specs.Refusals.{isRefusal}
 use Rattle.sheet.specs.Head.{Limits, headOf}
 use Rattle.sheet_headers.{specs.Headers.sheetHeaders, proofs.HeaderLaws.sheet-counts}
-use Rattle.rules.{specs.Accepted.NotRefused, specs.Owner.indexWord, proofs.OwnerLaws.{accepted-sized, by-start-some, start-word, size-word, row-word}}
-use Rattle.answers.{specs.Owner.{indexRefusal, regionIndexOf, indexAfter}, proofs.OwnerLaws.{ownersOf, accepted-headers, query-says, owner-given, index-says, index-given, after-length, word-there, IndexIn, index-owner}}
+use Rattle.rules.{specs.Accepted.NotRefused, specs.Owner.indexWord, proofs.OwnerLaws.{by-start-some, row-word, place-small}}
+use Rattle.answers.{specs.Owner.{indexRefusal, regionIndexOf, indexAfter}, proofs.AnswerLaws.accepted-headers, proofs.OwnerLaws.{ownersOf, query-says, owner-given, index-says, index-given, after-length, word-there, IndexIn, index-owner}}
 use Rattle.region_check.specs.{Agreement.Bytes, Lookup.Lookup}
 use Rattle.region_check.proofs.WordLaws.{le-bound, le-front}
 
@@ -17,20 +17,24 @@ module _ (s : List ℕ) (bytes : Bytes s) where
   few-rows = (le-bound 2 s 8 bytes, le-bound 2 s 10 bytes)
 
   module _ (accepted : NotRefused (sheetHeaders s)) (given : ℕ) (nonzero : given ≢ 0) where
+    row-small : (k : ℕ) → k < ownersOf s given → indexWord (sheetHeaders s) given (3 * k + 2) < 18446744073709551616
+    row-small k l =
+        let (i, r, e, m, _) = by-start-some (sheetHeaders s) accepted given nonzero k l in
+        let below = m .below in
+        let counts = sheet-counts s in
+        let (few-platforms, few) = few-rows in
+        rw (row-word (sheetHeaders s) given k i r e (m .region)) (omega arith)
+
     word-small : (w : ℕ) → w < 3 * ownersOf s given → indexWord (sheetHeaders s) given w < 18446744073709551616
     word-small w l =
         let k : ℕ = w / 3 in
-        let (i, r, e, m, _) = by-start-some (sheetHeaders s) accepted given nonzero k (omega arith) in
-        let (some-size, most) = accepted-sized (sheetHeaders s) accepted i r (m .below) (m .region) in
-        let counts = sheet-counts s in
-        let (few, few2) = few-rows in
-        let below = m .below in
+        let (start, size) = place-small (sheetHeaders s) accepted given nonzero k (omega arith) in
         elim (ℕ-discrete (w % 3) 0) [
-          | yes p ↦ let z : w ≡ 3 * (w / 3) = omega arith in rw (z, start-word (sheetHeaders s) given k i r e (m .region)) (omega arith)
+          | yes p ↦ let z : w ≡ 3 * (w / 3) = omega arith in rw z start
           | no p ↦
               elim (ℕ-discrete (w % 3) 1) [
-                | yes q ↦ let z : w ≡ 3 * (w / 3) + 1 = omega arith in rw (z, size-word (sheetHeaders s) given k i r e (m .region)) (omega arith)
-                | no q ↦ let z : w ≡ 3 * (w / 3) + 2 = omega arith in rw (z, row-word (sheetHeaders s) given k i r e (m .region)) (omega arith)
+                | yes q ↦ let z : w ≡ 3 * (w / 3) + 1 = omega arith in rw z size
+                | no q ↦ let z : w ≡ 3 * (w / 3) + 2 = omega arith in rw z (row-small k (omega arith))
               ]
         ]
 

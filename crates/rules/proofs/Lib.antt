@@ -8,6 +8,7 @@ pub mod QueryLaws
 pub mod Order
 pub mod SoundLaws
 pub mod OwnerLaws
+pub mod OwnerOrder
 pub mod StrictLaws
 pub mod SameRules
 pub mod KeptLaws

@@ -346,3 +346,11 @@ module _ (f : Headers) (accepted : NotRefused f) (given : ℕ) (nonzero : given 
       let d = one-start h i r c o m g in
       let s : startsBelow (f .initializations) given (r .gpa) ≡ k = rw g (omega arith) in
       (i, r, by-start-is i r c o m k s, record { below = c; region = o; matching = m }, s)
+
+  -- and its start and size are below 2^64
+  pub place-small : (k : ℕ) → k < indexCount (f .initializations) given
+      → (indexWord f given (3 * k) < 18446744073709551616) × (indexWord f given (3 * k + 1) < 18446744073709551616)
+  place-small k l =
+      let (i, r, e, m, _) = by-start-some k l in
+      let (some-size, most) = accepted-sized f accepted i r (m .below) (m .region) in
+      (rw (start-word f given k i r e (m .region)) (omega arith), rw (size-word f given k i r e (m .region)) (omega arith))
