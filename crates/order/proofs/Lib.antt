@@ -3,6 +3,7 @@ pub mod Partner
 pub mod ReadableToo
 pub mod Lists
 pub mod Answers
+pub mod Owners
 pub mod Theorem
 pub mod Pairings
 pub mod Swap

@@ -2,16 +2,11 @@
 use Rattle.rows.proofs.Kit.{_≡_, sym, List, ℕ, _<_}
 use Rattle.sheet.{specs.Head.{Limits, headOf}, specs.Read.{Readable, sheetRefusal}, proofs.Readable.sheet-says}
 use Rattle.sheet_headers.specs.Headers.{sheetHeaders}
-use Rattle.rules.{specs.Accepted.NotRefused, specs.Relocations.regionAt, proofs.FaultLaws.else-none, proofs.Order.same-answers, proofs.QueryLaws.number-below, proofs.SoundLaws.accepted-sound, proofs.StrictLaws.same-bits}
-use Rattle.answers.{proofs.AnswerLaws.regionsOf, proofs.StrictLaws.strictly-accepted, specs.Verdict.verdictRefusal, specs.Relocations.{sheetInitializations, baseNumber}}
-use Rattle.order.specs.{Reordered.Reordered, Demand.{Accepted, IsRegion, numberIn, SameAnswers}, Ranges.SameRanges, Strict.SameStrict}
-use Rattle.order.proofs.{ReadableToo.{heads, readable-too}, Lists.{paired-in, headers-reordered}, Answers.{list-same, words-same, answer-same, range-same}}
+use Rattle.rules.{specs.Accepted.NotRefused, specs.Relocations.regionAt, proofs.FaultLaws.else-none, proofs.Order.{reordered-sym, same-answers}, proofs.QueryLaws.number-below, proofs.SoundLaws.accepted-sound, proofs.StrictLaws.same-bits}
+use Rattle.answers.{proofs.AnswerLaws.{regionsOf, accepted-headers}, proofs.StrictLaws.strictly-accepted, specs.Verdict.verdictRefusal, specs.Relocations.{sheetInitializations, baseNumber}}
+use Rattle.order.specs.{Reordered.Reordered, Demand.{Accepted, IsRegion, numberIn, SameAnswers}, Ranges.SameRanges, Owners.SameOwners, Strict.SameStrict}
+use Rattle.order.proofs.{ReadableToo.{heads, readable-too}, Lists.{paired-in, headers-reordered}, Answers.{list-same, words-same, answer-same, range-same}, Owners.{refusal-same, owner-partner, no-owner-too, index-same, places-same}}
 use Rattle.rules.specs.Reordered as rules
-
--- the headers of an accepted sheet meet none of 8 to 34
-accepted-headers : (l : Limits) (s : List ℕ) → Accepted l s → NotRefused (sheetHeaders s)
-unfolding verdictRefusal
-accepted-headers l s v = else-none (sheetRefusal l s) _ .0 v .1
 
 -- of readable sheets with one head, whether 8 to 34 apply decides
 accepted-there : (l : Limits) (a b : List ℕ) → Readable l b → headOf b ≡ headOf a → (NotRefused (sheetHeaders a) → NotRefused (sheetHeaders b))
@@ -67,6 +62,18 @@ module _ (l : Limits) (a b : List ℕ) (ok : Readable l a) (R : Reordered a b) w
   pub same-ranges : SameRanges l a b R
   same-ranges v given i r lowest highest =
       range-same l a b v (there v) given (S .count given) _ _ (number-in a given i r) (number-in b given _ (region given i r)) (found given i r) lowest highest
+
+  -- and the owner of an address, and the index of a mask's regions
+  pub same-owners : SameOwners l a b R
+  unfolding paired-in headers-reordered H
+  same-owners =
+      record {
+        refusal = λ v given. refusal-same l a b H v (there v) given;
+        owner = λ v given. owner-partner l a b H v (there v) given;
+        none = λ v given gpa. (no-owner-too l a b H v (there v) given gpa, no-owner-too l b a (reordered-sym H) (there v) v given gpa);
+        index = λ v given. index-same l a b H v (there v) given;
+        words = λ v given. places-same l a b H v (there v) given;
+      }
 
   -- and the strict verdict
   pub same-strict : SameStrict l a b
