@@ -1,13 +1,15 @@
 -- What document 01 claims of image B, as one table: the change of B, the question and the answer, of a base with the reason that request 7 gives. Beside it what
--- reading finds, what is said of bases, and the strict verdict. The theorem is in proofs/ImageB.antt.
-use Prim.Native.Nat.{ℕ, zero, suc, _+_, _/_, _%_}
+-- reading finds, what is said of bases, the strict verdict, which row owns an address, and what an index of regions holds. The theorem is in proofs/ImageB.antt.
+use Prim.Native.Nat.{ℕ, zero, suc, _+_, _*_, _/_, _%_}
 use mathlib.Core.Path.{_≡_}
 use mathlib.Core.Bool.{cond}
 use mathlib.Core.List.{List, [], _∷_, _++_}
-use lib.ListN.{set, take, drop}
+use lib.ListN.{set, take, drop, replicate}
 use Rattle.igvm_defs.specs.declared.Refusal.{Refusal}
 use Rattle.igvm_defs.specs.Refusals.{isRefusal}
 use Rattle.sheet.specs.Head.{limits}
+use Rattle.sheet_headers.specs.Headers.{sheetHeaders}
+use Rattle.rules.specs.Owner.{indexCount, indexWord}
 use Rattle.addresses.specs.declared.BaseCheck.the-variants.{Valid, AboveMaximum}
 use Rattle.addresses.specs.BaseChecks.{checkNumber}
 use Rattle.answers.specs.declared.Answered.{Answered}
@@ -15,6 +17,7 @@ use Rattle.answers.specs.declared.Checked.{Checked}
 use Rattle.answers.specs.Verdict.{verdictRefusal}
 use Rattle.answers.specs.Strict.{strictRefusal}
 use Rattle.answers.specs.Relocations.{baseCheckOf, containsOf}
+use Rattle.answers.specs.Owner.{regionOwnerOf, regionIndexOf, indexAfter, regionIn}
 use Rattle.image_b.specs.ImageB.{imageB}
 
 -- ---- changes of B
@@ -65,6 +68,10 @@ pub data Question : Type 0 where
   base : ℕ → Question
   -- does this address lie in region 0 of mask 1
   contains : ℕ → Question
+  -- which row's region, of this mask, owns this address
+  owner : ℕ → ℕ → Question
+  -- the same of the index of this mask's regions, in so many bytes lent
+  looked : ℕ → ℕ → ℕ → Question
 
 pub data Answer : Type 0 where
   accepted : Answer
@@ -91,6 +98,10 @@ says verdict s = refusalOr (verdictRefusal limits s) accepted
 says strict s = refusalOr (strictRefusal limits s) accepted
 says (base x) s = answerSays (baseCheckOf limits s 1 0 x)
 says (contains x) s = checkSays (containsOf limits s 1 0 x)
+says (owner given x) s = answerSays (regionOwnerOf limits s given x)
+says (looked given lent x) s =
+    let a : Answered = regionIndexOf limits s given lent in
+    refusalOr (a .refusal) (answered (regionIn (take (24 * a .answer) (indexAfter limits s given (replicate lent 0))) x))
 
 -- ---- the table
 
@@ -238,6 +249,105 @@ strictly =
     ∷ claim (λ s. alignment 0 (mask 3 s)) strict (refused 19 2 0)
     ∷ claim (λ s. byteMore (mask 3 s)) strict (refused 6 0 0)
     ∷ []
+
+-- ---- the owner of an address
+
+-- a region of mask 2 in row 3, from 0x101000 on, over the upper half of the region of mask 1; the context has both bits
+abbrev pub over : List ℕ → List ℕ
+over s = secondMask 2 (secondRegion 0x101000 (put 4 104 3 s))
+
+abbrev pub owners : List Claim
+owners =
+    -- one below, start, last byte, one past
+    claim unchanged (owner 1 0xFFFFF) (answered 0)
+    ∷ claim unchanged (owner 1 0x100000) (answered 2)
+    ∷ claim unchanged (owner 1 0x101FFF) (answered 2)
+    ∷ claim unchanged (owner 1 0x102000) (answered 0)
+    -- a page table up to its used size, from there up to its size, one past
+    ∷ claim (pageTable 1) (owner 1 0x300FFF) (answered 3)
+    ∷ claim (pageTable 1) (owner 1 0x301000) (answered 3)
+    ∷ claim (pageTable 1) (owner 1 0x301FFF) (answered 3)
+    ∷ claim (pageTable 1) (owner 1 0x302000) (answered 0)
+    -- side by side
+    ∷ claim (secondRegion 0x102000) (owner 1 0x101FFF) (answered 2)
+    ∷ claim (secondRegion 0x102000) (owner 1 0x102000) (answered 3)
+    -- two masks over one another
+    ∷ claim over (owner 1 0x101000) (answered 2)
+    ∷ claim over (owner 2 0x101000) (answered 3)
+    ∷ claim over (owner 2 0x100FFF) (answered 0)
+    -- a mask of two bits: no region has both, one has, and it has either
+    ∷ claim over (owner 3 0x101000) (answered 0)
+    ∷ claim (mask 3) (owner 3 0x100000) (answered 2)
+    ∷ claim (mask 3) (owner 2 0x100000) (answered 2)
+    -- a mask without regions
+    ∷ claim unchanged (owner 2 0x100000) (answered 0)
+    -- the highest region, and the highest address
+    ∷ claim (gpa 0xFFFFFFFFFFFFD000) (owner 1 0xFFFFFFFFFFFFEFFF) (answered 2)
+    ∷ claim (gpa 0xFFFFFFFFFFFFD000) (owner 1 0xFFFFFFFFFFFFFFFF) (answered 0)
+    -- mask 0, and the verdict's refusals before it
+    ∷ claim unchanged (owner 0 0x100000) (refused 35 0 0)
+    ∷ claim (size 0) (owner 0 0x100000) (refused 27 2 0)
+    ∷ claim (size 0) (owner 1 0x100000) (refused 27 2 0)
+    ∷ []
+
+-- ---- the index of a mask's regions
+
+abbrev pub lookups : List Claim
+lookups =
+    claim unchanged (looked 1 24 0xFFFFF) (answered 0)
+    ∷ claim unchanged (looked 1 24 0x100000) (answered 2)
+    ∷ claim unchanged (looked 1 24 0x101FFF) (answered 2)
+    ∷ claim unchanged (looked 1 24 0x102000) (answered 0)
+    -- a second region that starts lower
+    ∷ claim (secondRegion 0xFD000) (looked 1 48 0xFD000) (answered 3)
+    ∷ claim (secondRegion 0xFD000) (looked 1 48 0xFF000) (answered 0)
+    ∷ claim (secondRegion 0xFD000) (looked 1 48 0x100000) (answered 2)
+    -- behind the used size of a page table, and below it
+    ∷ claim (pageTable 1) (looked 1 48 0x301FFF) (answered 3)
+    ∷ claim (pageTable 1) (looked 1 48 0x2FFFFF) (answered 0)
+    -- bytes to spare, a byte less than three words a region, no byte where the mask has no region
+    ∷ claim unchanged (looked 1 50 0x100000) (answered 2)
+    ∷ claim unchanged (looked 1 23 0x100000) (refused 37 0 0)
+    ∷ claim (secondRegion 0xFD000) (looked 1 47 0x100000) (refused 37 0 0)
+    ∷ claim unchanged (looked 2 0 0x100000) (answered 0)
+    -- 35 before 37, and the verdict's refusals before both
+    ∷ claim unchanged (looked 0 0 0x100000) (refused 35 0 0)
+    ∷ claim (size 0) (looked 0 0 0x100000) (refused 27 2 0)
+    ∷ []
+
+abbrev pub wordsFrom : ℕ → ℕ → (ℕ → ℕ) → List ℕ
+wordsFrom zero w word = []
+wordsFrom (suc n) w word = word w ∷ wordsFrom n (w + 1) word
+
+-- its words: of each region start, size and row
+abbrev pub indexed : ℕ → List ℕ → List ℕ
+indexed given s = wordsFrom (3 * indexCount (sheetHeaders s .initializations) given) 0 (indexWord (sheetHeaders s) given)
+
+pub record Index : Type 0 where
+  pub change : List ℕ → List ℕ
+  pub given : ℕ
+  pub words : List ℕ
+
+abbrev pub index : (List ℕ → List ℕ) → ℕ → List ℕ → Index
+index change given words = record { change = change; given = given; words = words }
+
+abbrev pub indexes : List Index
+indexes =
+    index unchanged 1 (0x100000 ∷ 0x2000 ∷ 2 ∷ [])
+    ∷ index unchanged 2 []
+    ∷ index (secondRegion 0x102000) 1 (0x100000 ∷ 0x2000 ∷ 2 ∷ 0x102000 ∷ 0x2000 ∷ 3 ∷ [])
+    ∷ index (secondRegion 0xFD000) 1 (0xFD000 ∷ 0x2000 ∷ 3 ∷ 0x100000 ∷ 0x2000 ∷ 2 ∷ [])
+    ∷ index (pageTable 1) 1 (0x100000 ∷ 0x2000 ∷ 2 ∷ 0x300000 ∷ 0x2000 ∷ 3 ∷ [])
+    ∷ index (pageTable 3) 1 (0x100000 ∷ 0x2000 ∷ 2 ∷ 0x300000 ∷ 0x2000 ∷ 3 ∷ [])
+    ∷ index (pageTable 3) 3 (0x300000 ∷ 0x2000 ∷ 3 ∷ [])
+    ∷ index over 1 (0x100000 ∷ 0x2000 ∷ 2 ∷ [])
+    ∷ index over 2 (0x101000 ∷ 0x2000 ∷ 3 ∷ [])
+    ∷ index over 3 []
+    ∷ []
+
+abbrev pub AllIndexed : List Index → Type 0
+AllIndexed [] = Unit
+AllIndexed (i ∷ is) = (indexed (i .given) (i .change imageB) ≡ i .words) × AllIndexed is
 
 -- every claim of the table is true
 abbrev pub AllTrue : List Claim → Type 0
