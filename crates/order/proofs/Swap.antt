@@ -4,16 +4,16 @@ use Rattle.rows.{proofs.Kit.{_≡_, refl, false, false≢true, List, ℕ, _+_, 
 use Rattle.le.specs.Le.{leAt}
 use Rattle.igvm_defs.{specs.Refusals.{isFault, isRefusal, inRow, orElse, firstFault}, specs.Kinds.{spans, kindOf, fields, lengthOk}, specs.Platforms.{platformTypes, isPlatformType, platformTypeOf}, specs.Vtls.vtlOf, proofs.Runs._⨾_}
 use Rattle.masks.specs.Masks.{shares, matches, isOneBit, hasBit, bitsBelow, firstMask}
-use Rattle.addresses.specs.Addresses.{isMultiple, meets, endsBeyond}
+use Rattle.addresses.specs.Addresses.{isMultiple, contains, meets, endsBeyond}
 use Rattle.sheet.{specs.Head.{limits, headOf, layoutOk, withinLimits, startFault, revisionOf, pageSizeFault}, specs.Table.{rowKind, rowLength, offsetOf, bodyOf}, specs.Read.{listAt, codesOk, rowFault, endFault, rowsRefusal, readRefusal, sheetRefusal}}
 use Rattle.platform_header.specs.Platforms.{platformOf}
 use Rattle.initialization_header.specs.Initializations.{initializationOf}
 use Rattle.directive_header.{specs.Directives.directiveOf, specs.Fields.areaNamed}
 use Rattle.sheet_headers.specs.Headers.{sheetHeaders}
-use Rattle.rules.{specs.Regions.{regionPasses, tablesShare, overlap}, specs.Platforms.{validatePlatform, sameType, ownPlatformFault, platformFault, lastIsCca}, specs.Initializations.{validateRegion, validateTable, bitWithoutCca, initializationFault}, specs.Directives.{wrongContextArch, allocates, inserts, isAllocated, badArea, ownDirectiveFault, directiveFault, noContext}, specs.Verdict.{noPlatform, noMatchingVpContext, platformsRefusal, initializationsRefusal, directivesRefusal, headersRefusal}}
-use Rattle.answers.{proofs.AnswerLaws.accepted-readable, specs.Verdict.verdictRefusal, specs.Relocations.{relocationsOf, wordsAfter}, specs.BaseRanges.baseRangeOf}
+use Rattle.rules.{specs.Regions.{regionPasses, tablesShare, overlap}, specs.Platforms.{validatePlatform, sameType, ownPlatformFault, platformFault, lastIsCca}, specs.Initializations.{validateRegion, validateTable, bitWithoutCca, initializationFault}, specs.Directives.{wrongContextArch, allocates, inserts, isAllocated, badArea, ownDirectiveFault, directiveFault, noContext}, specs.Verdict.{noPlatform, noMatchingVpContext, platformsRefusal, initializationsRefusal, directivesRefusal, headersRefusal}, specs.Owner.{ownsAddress, ownerOf}}
+use Rattle.answers.{proofs.AnswerLaws.accepted-readable, specs.Verdict.verdictRefusal, specs.Relocations.{maskFault, queryRefusal, relocationsOf, wordsAfter}, specs.Owner.regionOwnerOf, specs.BaseRanges.baseRangeOf}
 use Rattle.order.specs.{Sheets.{sheetA, sheetB}, Reordered.Reordered, Demand.{Accepted, SameAnswers}}
-use Rattle.order.proofs.{Pairings.{alike, exchanged}, Theorem.{demand-3, same-ranges}}
+use Rattle.order.proofs.{Pairings.{alike, exchanged}, Theorem.{demand-3, same-ranges, same-owners}}
 
 -- the two platforms have two masks; the context names no area
 pub reordered : Reordered sheetA sheetB
@@ -54,3 +54,18 @@ pub ranges-same : (lowest highest : ℕ) → baseRangeOf limits sheetA 1 0 lowes
 unfolding sheetA sheetB reordered headOf rowKind rowLength offsetOf bodyOf kindOf spans fields leAt sumBelow sheetHeaders initializationOf matches
 ranges-same =
     same-ranges limits sheetA sheetB (accepted-readable limits sheetA accepted-A) reordered accepted-A 1 0 (record { below = omega arith; relocatable = refl })
+
+-- and owns its last byte: it is row 3 in the one sheet and row 4 in the other
+owner-A : regionOwnerOf limits sheetA 1 0x101FFF .answer ≡ 3
+unfolding
+    sheetA ones onesIn anyBelow firstBelow lastBelow sumBelow leAt isFault isRefusal inRow orElse firstFault spans kindOf lengthOk platformTypes
+    isPlatformType platformTypeOf vtlOf limits headOf layoutOk withinLimits startFault revisionOf pageSizeFault rowKind rowLength offsetOf bodyOf
+    listAt codesOk rowFault endFault rowsRefusal readRefusal sheetRefusal platformOf initializationOf directiveOf shares matches isOneBit hasBit
+    bitsBelow firstMask isMultiple contains meets endsBeyond regionPasses tablesShare overlap validatePlatform sameType ownPlatformFault platformFault lastIsCca validateRegion
+    validateTable bitWithoutCca initializationFault wrongContextArch allocates inserts isAllocated badArea ownDirectiveFault directiveFault noContext noPlatform
+    noMatchingVpContext platformsRefusal initializationsRefusal directivesRefusal headersRefusal sheetHeaders verdictRefusal maskFault queryRefusal ownsAddress ownerOf regionOwnerOf
+owner-A = refl
+
+pub owner-moves : (regionOwnerOf limits sheetA 1 0x101FFF .answer ≡ 3) × (regionOwnerOf limits sheetB 1 0x101FFF .answer ≡ 4)
+unfolding sheetA sheetB reordered headOf leAt sumBelow sheetHeaders
+owner-moves = (owner-A, same-owners limits sheetA sheetB (accepted-readable limits sheetA accepted-A) reordered .owner accepted-A 1 0x101FFF 0 owner-A)
