@@ -86,6 +86,7 @@ one-most : (b : Bool) → cond {A = ℕ} b 1 0 ≤ 1
 one-most true = omega arith
 one-most false = omega arith
 
+-- what passes the first test passes the second
 pub count-more-pass : (p q : ℕ → Bool) (n : ℕ) → ((i : ℕ) → i < n → p i ≡ true → q i ≡ true) → countBelow n p ≤ countBelow n q
 count-more-pass p q n h =
     sum-le n n (λ i. cond (p i) 1 0) (λ i. cond (q i) 1 0) (λ i. i) (λ i l. l) (λ i j l k e. e) (λ i l. one-more (p i) (q i) (h i l))
@@ -236,7 +237,7 @@ module _ (xs : Rows IgvmInitializationHeader) (given : ℕ) where
           let c = place-below i r b o m in
           absurd (omega arith)
 
-  -- an address up to which k of the mask's regions start or fewer, and which one more does not start above
+  -- where more than k start below an address, there is one at which their count passes k
   reached : (gpa k : ℕ) → k < startsBelow xs given gpa → (h : ℕ) × (startsBelow xs given h ≤ k) × (k < startsBelow xs given (suc h))
   reached zero k l = absurd (omega (arith, starts-none))
   reached (suc gpa) k l = go (decLt k (startsBelow xs given gpa)) (reached gpa k)
@@ -354,3 +355,11 @@ module _ (f : Headers) (accepted : NotRefused f) (given : ℕ) (nonzero : given 
       let (i, r, e, m, _) = by-start-some k l in
       let (some-size, most) = accepted-sized f accepted i r (m .below) (m .region) in
       (rw (start-word f given k i r e (m .region)) (omega arith), rw (size-word f given k i r e (m .region)) (omega arith))
+
+  -- and each region of the mask has one place
+  pub one-place : (i : ℕ) (r : Region) → MatchingRegion f given i r
+      → (k : ℕ) × (k < indexCount (f .initializations) given) × (byStart (f .initializations) given k ≡ some i)
+      × ((j : ℕ) → byStart (f .initializations) given j ≡ some i → j ≡ k)
+  one-place i r m =
+      let e = by-start-is i r (m .below) (m .region) (m .matching) _ refl in
+      (_, place-below (f .initializations) given i r (m .below) (m .region) (m .matching), e, λ j g. by-start-once (f .initializations) given j _ i g e)
