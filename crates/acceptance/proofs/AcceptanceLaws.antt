@@ -5,6 +5,7 @@ use Rattle.sheet.{specs.declared.Cursor.Cursor, specs.Head.{limits, headOf, row
 use Rattle.sheet_headers.{specs.Headers.sheetHeaders, proofs.HeaderLaws.sheet-counts}
 use Rattle.rules.{specs.Verdict.{directiveFaults, platformFaults, initializationFaults, platformsRefusal, directivesRefusal}, proofs.Acceptance.{platforms-say, initializations-say, headers-say}}
 use Rattle.contexts.specs.Contexts.{anyLacks}
+use Rattle.by_start.specs.ByStart.{ByStart}
 use Rattle.initialization_check.{specs.declared.RelocRegions.RelocRegions, specs.Record.{anyRegion, regionsIn, HoldsRows}}
 use Rattle.directive_check.{specs.Record.{HoldsContexts, lacksContext}, proofs.DirectiveRecordLaws.holds-no-contexts}
 use Rattle.directive_pass.proofs.DirectivePass.{directives-last}
@@ -35,10 +36,10 @@ platforms-none s c cca a l p =
     (platforms-say f .1 (none-any (f .platforms .count) (λ i. isFault (platformFaults f i)) .0 (rw e at (a .good)), omega arith), rw e at (a .holds))
 
 -- the initialization rows
-pub initializations-none : (s : List ℕ) (held : RelocRegions) (numbers : List ℕ) (c : Cursor) → InitializationsAccepted s held numbers c
+pub initializations-none : (s : List ℕ) (held : RelocRegions) (numbers next : List ℕ) (c : Cursor) → InitializationsAccepted s held numbers next c
     → headOf s .platforms + headOf s .initializations ≤ c .row → isRefusal (platformsRefusal (sheetHeaders s)) ≡ false
-    → ListsAccepted s held c × HoldsRows (headOf s .platforms) numbers held (sheetHeaders s .initializations)
-initializations-none s held numbers c a l p =
+    → ListsAccepted s held c × HoldsRows (headOf s .platforms) numbers held (sheetHeaders s .initializations) × ByStart next (held .gpa) (held .count)
+initializations-none s held numbers next c a l p =
     let f = sheetHeaders s in let high = a .high in let n = sheet-counts s .initializations in
     let e : c .row - headOf s .platforms ≡ f .initializations .count = omega arith in (
       record {
@@ -49,15 +50,16 @@ initializations-none s held numbers c a l p =
         holds = rw e at (a .holds);
       },
       rw e at (a .rows),
+      a .order,
     )
 
 -- the directive rows, and 34
-pub all-none : (s masks gpas sizes vps vtls : List ℕ) (tables : List Bool) (n : ℕ) (numbers contexts : List ℕ) (from c : Cursor)
+pub all-none : (s masks gpas sizes vps vtls : List ℕ) (tables : List Bool) (n : ℕ) (numbers next contexts : List ℕ) (from c : Cursor)
     → ListsAccepted s (regionsIn masks gpas sizes vps vtls tables n) from → DirectivesAccepted s c contexts → rowCount (headOf s) ≤ c .row → length s ≤ c .at
     → length contexts ≡ 3 → anyLacks masks vps vtls n contexts ≡ false → HoldsRows (headOf s .platforms) numbers (regionsIn masks gpas sizes vps vtls tables n) (sheetHeaders s .initializations)
-    → RowsAccepted s (regionsIn masks gpas sizes vps vtls tables n) numbers contexts
+    → ByStart next gpas n → RowsAccepted s (regionsIn masks gpas sizes vps vtls tables n) numbers next contexts
 unfolding lacksContext
-all-none s masks gpas sizes vps vtls tables n numbers contexts from c lists a l whole three lacks rows =
+all-none s masks gpas sizes vps vtls tables n numbers next contexts from c lists a l whole three lacks rows order =
     let f = sheetHeaders s in let held = regionsIn masks gpas sizes vps vtls tables n in let high = a .read .high in let low = a .low in
     let k = sheet-counts s .directives in
     let e : c .row - firstDirective s ≡ f .directives .count = omega arith in
@@ -69,7 +71,7 @@ all-none s masks gpas sizes vps vtls tables n numbers contexts from c lists a l 
     record {
       read = rows-read s c (a .read) l whole;
       headers = headers-say f .1 (lists .platforms, lists .initializations, directives);
-      kept = record { regions = lists .holds; rows = rows; masks = contexts-held; vtls = three };
+      kept = record { regions = lists .holds; rows = rows; order = order; masks = contexts-held; vtls = three };
     }
 
 -- before the first directive row nothing is passed

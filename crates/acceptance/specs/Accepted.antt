@@ -16,10 +16,10 @@ use Rattle.initialization_check.specs.Record.{HoldsRegions}
 use Rattle.keep.specs.Kept.{Kept}
 
 -- none of 1 to 6 and of 8 to 34 applies to the rows, and what was found of them is kept
-pub record RowsAccepted (s : List ℕ) (held : RelocRegions) (numbers contexts : List ℕ) : Type 0 where
+pub record RowsAccepted (s : List ℕ) (held : RelocRegions) (numbers next contexts : List ℕ) : Type 0 where
   pub read : isRefusal (rowsRefusal s) ≡ false
   pub headers : NotRefused (sheetHeaders s)
-  pub kept : Kept s held numbers contexts
+  pub kept : Kept s held numbers next contexts
 
 -- the platform rows and the initialization rows are in order, and the record has the regions
 pub record ListsAccepted (s : List ℕ) (held : RelocRegions) (c : Cursor) : Type 0 where

@@ -26,30 +26,10 @@ pub fn any_tables_share<'a>(r: Region, masks: &'a [u32], tables: &'a [bool], n: 
 }
 
 // r shares a bit with the mask, and an address with the size bytes from gpa.
-fn overlaps(r: Region, mask: u32, gpa: u64, size: u64) -> bool
+pub fn overlaps(r: Region, mask: u32, gpa: u64, size: u64) -> bool
     ensures { λ s. ⌜ s ≡ (shares (r .mask) mask && meets (r .gpa) (r .size) gpa size) ⌝ }
 {
     masks::shares(r.mask, mask) & addresses::meets(r.gpa, r.size, gpa, size)
-}
-
-// Some of the first n regions shares a bit with r, and an address.
-pub fn any_overlap<'a>(
-    r: Region,
-    masks: &'a [u32],
-    gpas: &'a [u64],
-    sizes: &'a [u64],
-    n: usize,
-) -> bool
-    requires { ⌜ (n ≤ length (now masks)) × (n ≤ length (now gpas)) × (n ≤ length (now sizes)) ⌝ }
-    ensures { λ s. ⌜ s ≡ anyOverlap r (now (masks .entry)) (now (gpas .entry)) (now (sizes .entry)) n ⌝ }
-{
-    let mut i = 0;
-    let mut found = false;
-    while i < n {
-        found = found | overlaps(r, masks[i], gpas[i], sizes[i]);
-        i += 1;
-    }
-    found
 }
 
 // Some page table of the first n regions shares a bit with the mask and contains the address.

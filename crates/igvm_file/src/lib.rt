@@ -20,6 +20,7 @@ fn judge_few(s: &[u8], head: SheetHead) -> Verdict
     let mut vtls: [u8; 4] = [0; 4];
     let mut tables: [bool; 4] = [false; 4];
     let mut rows: [u16; 4] = [0; 4];
+    let mut next: [u8; 5] = [0; 5];
     let mut contexts: [u32; 3] = [0; 3];
     judge::judge(
         s,
@@ -31,6 +32,7 @@ fn judge_few(s: &[u8], head: SheetHead) -> Verdict
         &mut vtls,
         &mut tables,
         &mut rows,
+        &mut next,
         &mut contexts,
     ).verdict
 }
@@ -47,6 +49,7 @@ fn judge_many(s: &[u8], head: SheetHead) -> Verdict
     let mut tables: [bool; SheetHead::INITIALIZATION_ROWS] =
         [false; SheetHead::INITIALIZATION_ROWS];
     let mut rows: [u16; SheetHead::INITIALIZATION_ROWS] = [0; SheetHead::INITIALIZATION_ROWS];
+    let mut next: [u8; SheetHead::INITIALIZATION_PLACES] = [0; SheetHead::INITIALIZATION_PLACES];
     let mut contexts: [u32; 3] = [0; 3];
     judge::judge(
         s,
@@ -58,6 +61,7 @@ fn judge_many(s: &[u8], head: SheetHead) -> Verdict
         &mut vtls,
         &mut tables,
         &mut rows,
+        &mut next,
         &mut contexts,
     ).verdict
 }

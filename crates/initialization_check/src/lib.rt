@@ -1,9 +1,8 @@
 // Initialization headers: refusals 16 to 29, header by header, and the record of regions.
 ghost use mathlib.Core.Path.{_≡_};
-ghost use mathlib.Core.Bool.{true, not, cond, _&&_};
+ghost use mathlib.Core.Bool.{true, not, cond};
 ghost use mathlib.Core.Option.{none, some};
 ghost use Prim.Native.Nat.{ℕ, _≤_};
-ghost use lib.ListN.{length};
 ghost use Rattle.sheet.specs.Head.{platformRows, initializationRows};
 ghost use Rattle.rows.specs.Rows.{Rows, before};
 ghost use Rattle.platform_header.specs.declared.IgvmPlatformHeader.{IgvmPlatformHeader};
@@ -14,10 +13,9 @@ ghost use Rattle.masks.specs.Masks.{individualMasks, firstMask};
 ghost use Rattle.platform_check.specs.Record.{HoldsPlatforms, lastTypeIsCca};
 ghost use Rattle.rules.specs.Regions.{regionOf};
 ghost use Rattle.rules.specs.Initializations.{validateRegion, validateTable, validateInitialization, refuseBit};
-ghost use Rattle.extents.specs.Extents.{apartFrom, Covers};
-ghost use Rattle.clashes.specs.Clashes.{anyOverlap};
+ghost use Rattle.by_start.specs.ByStart.{Ordered, Searched};
 ghost use Rattle.initialization_check.specs.Record.{policyFault, HoldsClashes, InitializationStepped};
-use extents::Reach;
+use by_start::Order;
 use igvm_defs::Arch;
 use igvm_defs::Fault;
 use igvm_defs::Vtl;
@@ -101,24 +99,6 @@ pub struct RelocRegions {
     pub count: usize,
 }
 
-// As `any_overlap`, but for a region apart from what the regions lie within.
-pub fn any_near_overlap<'a>(
-    reach: Reach,
-    r: Region,
-    masks: &'a [u32],
-    gpas: &'a [u64],
-    sizes: &'a [u64],
-    n: usize,
-) -> bool
-    requires { ⌜ (n ≤ length (now masks)) × (n ≤ length (now gpas)) × (n ≤ length (now sizes)) ⌝ }
-    ensures { λ s. ⌜ s ≡ (not (apartFrom reach r) && anyOverlap r (now (masks .entry)) (now (gpas .entry)) (now (sizes .entry)) n) ⌝ }
-{
-    if reach.apart(r) {
-        return false;
-    }
-    clashes::any_overlap(r, masks, gpas, sizes, n)
-}
-
 // A region of either kind, where a header has one.
 pub struct HeaderRegion {
     pub found: bool,
@@ -191,27 +171,31 @@ impl RelocRegions {
     }
 }
 
-// The fault of a row, and its region where it has one. The regions before it are the first n of the lent arrays; who keeps them stores the region in
-// place, since a record of arrays that is passed or returned is copied.
+// The fault of a row, and its region where it has one, with its place in order of start. The regions before it are the first n of the lent arrays; who keeps them stores
+// the region in place, since a record of arrays that is passed or returned is copied.
 pub fn check<'a>(
     arch: Arch,
     platforms: Platforms,
     h: IgvmInitializationHeader,
-    reach: Reach,
+    order: Order,
     masks: &'a [u32; SheetHead::INITIALIZATION_ROWS],
     gpas: &'a [u64; SheetHead::INITIALIZATION_ROWS],
     sizes: &'a [u64; SheetHead::INITIALIZATION_ROWS],
     tables: &'a [bool; SheetHead::INITIALIZATION_ROWS],
+    next: &'a [u8; SheetHead::INITIALIZATION_PLACES],
     n: usize,
 ) -> InitializationStep
-    requires { ⌜ (n ≤ initializationRows) × (platforms .count ≤ platformRows) ⌝ }
-    ensures { λ r. ⌜ ((ps : Rows IgvmPlatformHeader) (xs : Rows IgvmInitializationHeader) (i : ℕ) → HoldsPlatforms platforms ps → h ≡ xs .row i → HoldsClashes (now (masks .entry)) (now (gpas .entry)) (now (sizes .entry)) (now (tables .entry)) n (before i xs) → Covers reach (before i xs) → InitializationStepped arch ps xs i (r .fault) (r .found) (r .region)) ⌝ }
+    requires { ⌜ (n ≤ initializationRows) × (platforms .count ≤ platformRows) × Ordered (now next) (now gpas) (now sizes) n order ⌝ }
+    ensures { λ r. ⌜ ((ps : Rows IgvmPlatformHeader) (xs : Rows IgvmInitializationHeader) (i : ℕ) → HoldsPlatforms platforms ps → h ≡ xs .row i → HoldsClashes (now (masks .entry)) (now (gpas .entry)) (now (sizes .entry)) (now (tables .entry)) n (before i xs) → InitializationStepped arch ps xs i (r .fault) (r .found) (r .region)) ⌝ }
+    ensures { λ r. ⌜ Searched (r .region) (now (masks .entry)) (now (gpas .entry)) (now (sizes .entry)) (now (next .entry)) n (r .at) × (r .from ≤ n) ⌝ }
 {
     let new = region_of(h);
     let found = new.found;
     let region = new.region;
     let shares = clashes::any_tables_share(region, masks, tables, n);
-    let overlaps = any_near_overlap(reach, region, masks, gpas, sizes, n);
+    let from = order.begin(region.gpa, gpas, next, n);
+    let at = by_start::search(region, masks, gpas, sizes, next, n, from);
+    let overlaps = n < at;
     let own = igvm_defs::or_fault(validate(h), policy_fault(arch, platforms, h));
     let beyond = addresses::ends_beyond(region.gpa, region.size);
     // Nested, not by `or`: so the compiled code of this step is shorter.
@@ -238,6 +222,8 @@ pub fn check<'a>(
         fault,
         found,
         region,
+        from,
+        at,
     }
 }
 
@@ -245,6 +231,8 @@ pub struct InitializationStep {
     pub fault: Fault,
     pub found: bool,
     pub region: Region,
+    pub from: usize,
+    pub at: usize,
 }
 
 // 25, with the lowest bit of the mask whose last platform is not CCA.

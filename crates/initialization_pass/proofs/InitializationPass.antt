@@ -1,14 +1,14 @@
 -- Laws of the pass over the initialization rows: what holds at a turn of the loop, where it stops, and what it says at the end.
 use mir.Val.{boolByte}
-use Rattle.rows.{proofs.Kit.{_≡_, refl, sym, ap, ap₂, _∙_, Bool, true, false, not, cond, _&&_, and-false, and-true, List, none, some, ℕ, _+_, _*_, _≤_, _<_, add-zero, add-one, add-assoc, arith, length, length-set, not-true}, specs.Below.{anyBelow, sumBelow, countBelow}, specs.Rows.{Rows, before, more}, proofs.Bools.{and-parts, cond-same, one-at-most, byte-count}, proofs.BelowLaws.{none-any, any-more, count-more}, proofs.SameLaws.{rows-refl, rows-sym, any-rows, more-last, more-before}}
+use Rattle.rows.{proofs.Kit.{_≡_, refl, sym, ap, ap₂, _∙_, Bool, true, false, not, cond, _&&_, and-false, and-true, List, none, some, ℕ, _+_, _*_, _≤_, _<_, add-zero, add-one, add-assoc, arith, length, getD, length-set, not-true}, specs.Below.{anyBelow, sumBelow, countBelow}, specs.Rows.{Rows, any, before, more}, proofs.Bools.{and-parts, cond-same, one-at-most, byte-count}, proofs.BelowLaws.{none-any, any-more, count-more}, proofs.SameLaws.{rows-refl, rows-sym, more-last, more-before}}
 use Rattle.igvm_defs.{specs.declared.Arch.Arch, specs.declared.Fault.Fault, specs.declared.Refusal.Refusal, specs.Kinds.initializationList, specs.Refusals.{noRefusal, isFault, isRefusal, inRow, firstFault}, proofs.RefusalLaws.{fault-stop, fault-end, faults-any}}
 use Rattle.lent.{specs.Lent.{wordPut, wordsPut}, proofs.LentLaws.{words-none, words-more, words-length}}
 use Rattle.sheet.{specs.declared.Cursor.Cursor, specs.Head.{limits, headOf}, specs.Table.{rowKind, bodyOf}, specs.Read.Readable, specs.Walk.cursorAt, proofs.Readable.readable-bounds}
 use Rattle.platform_header.specs.declared.IgvmPlatformHeader.{IgvmPlatformHeader}
 use Rattle.initialization_header.{specs.declared.IgvmInitializationHeader.IgvmInitializationHeader, specs.Initializations.initializationOf}
 use Rattle.sheet_headers.{specs.Headers.sheetHeaders, proofs.HeaderLaws.sheet-counts, proofs.ListLaws.{AtList, at-initialization, initialization-header, stopped}}
-use Rattle.rules.{specs.declared.Region.Region, specs.Regions.{regionOf, regionPasses, overlap}, specs.Initializations.initializationFault, specs.Verdict.{initializationFaults, initializationsRefusal}, specs.Kept.{keptBelow, faultOf}, specs.Report.{keptInitializations, faultyInitializations, reportWord}, proofs.SameRules.initialization-same, proofs.KeptLaws.{Steady, kept-count, kept-next, kept-all, first-fault-same}, proofs.ReportLaws.{steady-initializations, initialization-word}}
-use Rattle.extents.{specs.declared.Reach.Reach, specs.Extents.{apartFrom, Covers}, proofs.ExtentLaws.covers-more}
+use Rattle.rules.{specs.declared.Region.Region, specs.Regions.{regionOf, regionPasses, overlap}, specs.Initializations.initializationFault, specs.Verdict.{initializationFaults, initializationsRefusal}, specs.Kept.{keptBelow, faultOf}, specs.Report.{keptInitializations, faultyInitializations, reportWord}, proofs.Acceptance.initialization-says, proofs.RegionLaws.{region-fails, clash-any}, proofs.SameRules.initialization-same, proofs.KeptLaws.{Steady, kept-count, kept-next, kept-all, first-fault-same}, proofs.ReportLaws.{steady-initializations, initialization-word}}
+use Rattle.by_start.{specs.declared.Order.Order, specs.ByStart.{PlacedAt, Searched, linked, Ordered, More}, proofs.OrderedLaws.{ordered-none, ordered-stored, linked-length}}
 use Rattle.platform_check.{specs.declared.Platforms.Platforms, specs.Record.HoldsPlatforms, proofs.RecordLaws.holds-count}
 use Rattle.initialization_check.{specs.declared.RelocRegions.RelocRegions, specs.Record.{HoldsRegions, HoldsClashes, InitializationStepped, stored}, proofs.RecordLaws.{Room, holds-none, holds-stored, holds-skipped, holds-same, holds-clashes}}
 use Rattle.initialization_pass.specs.Passed.{platformsFor, ruleFor, InitializationRowsPassed, InitializationsPassed, Lengths}
@@ -25,10 +25,9 @@ faultAt s all j = faultOf (ruleFor all (sheetHeaders s)) (sheetHeaders s .initia
 pub record Told (s : List ℕ) (all : Bool) (i : ℕ) (f : Fault) (found : Bool) (new : Region) : Type 0 where
   pub told : f ≡ faultAt s all i
   pub region : regionOf (sheetHeaders s .initializations .row i) ≡ cond found (some new) none
-  pub ends : isFault f ≡ false → found ≡ true → new .gpa + new .size ≤ 18446744073709551615
 
 -- at the head of the loop
-pub record InitializationsReached (s : List ℕ) (p : Platforms) (first n : ℕ) (a : Arch) (all : Bool) (lent words : List ℕ) (c : Cursor) (q : RelocRegions) (e : Reach) (faulty i : ℕ) : Type 0 where
+pub record InitializationsReached (s : List ℕ) (p : Platforms) (first n : ℕ) (a : Arch) (all : Bool) (lent words : List ℕ) (c : Cursor) (q : RelocRegions) (next : List ℕ) (order : Order) (faulty i : ℕ) : Type 0 where
   pub readable : Readable limits s
   pub platforms : HoldsPlatforms p (platformsFor all (sheetHeaders s))
   pub first-row : first ≡ headOf s .platforms
@@ -38,7 +37,8 @@ pub record InitializationsReached (s : List ℕ) (p : Platforms) (first n : ℕ)
   pub at : c ≡ cursorAt s (first + i)
   pub lengths : Lengths q
   pub holds : HoldsRegions q (keptTo s all i)
-  pub covers : Covers e (keptTo s all i)
+  pub places : length next ≡ 65
+  pub ordered : Ordered next (q .gpa) (q .size) (q .count) order
   pub passed : all ≡ false → anyBelow i (λ j. isFault (faultAt s all j)) ≡ false
   pub counted : faulty ≡ countBelow i (λ j. isFault (faultAt s all j))
   pub few : faulty ≤ i
@@ -46,12 +46,12 @@ pub record InitializationsReached (s : List ℕ) (p : Platforms) (first n : ℕ)
   pub put : words ≡ cond all (wordsPut first i (reportWord (sheetHeaders s)) lent) lent
 
 -- before the first row nothing is kept, nothing is faulty, and no word is put
-pub initializations-none : (s : List ℕ) (p : Platforms) (first n : ℕ) (a : Arch) (all : Bool) (lent : List ℕ) (c : Cursor) (q : RelocRegions) (e : Reach)
+pub initializations-none : (s : List ℕ) (p : Platforms) (first n : ℕ) (a : Arch) (all : Bool) (lent : List ℕ) (c : Cursor) (q : RelocRegions) (next : List ℕ) (order : Order)
     → Readable limits s × (first ≡ headOf s .platforms) × (n ≡ headOf s .initializations) × (a ≡ sheetHeaders s .arch)
     → HoldsPlatforms p (platformsFor all (sheetHeaders s)) × (all ≡ true → 8 * (first + n) ≤ length lent) → c ≡ cursorAt s first → (q .count ≡ 0) × Lengths q
-    → Covers e (before 0 (sheetHeaders s .initializations)) → InitializationsReached s p first n a all lent lent c q e 0 0
+    → (length next ≡ 65) × (getD next 0 0 ≡ 0) → (order .last ≡ 0) × (order .near ≡ 0) → InitializationsReached s p first n a all lent lent c q next order 0 0
 unfolding keptBelow anyBelow sumBelow
-initializations-none s p first n a all lent c q e (ok, first-row, rows, arch) (platforms, room) at (count, lengths) covers =
+initializations-none s p first n a all lent c q next order (ok, first-row, rows, arch) (platforms, room) at (count, lengths) (places, unlinked) (last, near) =
     record {
       readable = ok;
       platforms = platforms;
@@ -62,7 +62,8 @@ initializations-none s p first n a all lent c q e (ok, first-row, rows, arch) (p
       at = rw add-zero at;
       lengths = lengths;
       holds = holds-none q (sheetHeaders s .initializations) count;
-      covers = covers;
+      places = places;
+      ordered = rw count (ordered-none next (q .gpa) (q .size) order unlinked last near);
       passed = λ _. refl;
       counted = refl;
       few = omega arith;
@@ -79,8 +80,8 @@ pub found-kept : (all faulty found : Bool) → (faulty && not all) ≡ false →
 found-kept true faulty found on = refl
 found-kept false faulty found on = let e : faulty ≡ false = rw and-true at on in rw (e, and-true)
 
-module _ {s : List ℕ} {p : Platforms} {first n : ℕ} {a : Arch} {all : Bool} {lent words : List ℕ} {c : Cursor} {q : RelocRegions} {reach : Reach} {faulty i : ℕ}
-    (r : InitializationsReached s p first n a all lent words c q reach faulty i) where
+module _ {s : List ℕ} {p : Platforms} {first n : ℕ} {a : Arch} {all : Bool} {lent words : List ℕ} {c : Cursor} {q : RelocRegions} {next : List ℕ} {order : Order} {faulty i : ℕ}
+    (r : InitializationsReached s p first n a all lent words c q next order faulty i) where
   pub initialization-known : i < n → AtList s initializationList c
   initialization-known l = at-initialization s (r .readable) c i (rw (r .first-row) at (r .at)) (rw (← r .rows) l)
 
@@ -104,20 +105,18 @@ module _ {s : List ℕ} {p : Platforms} {first n : ℕ} {a : Arch} {all : Bool} 
   -- the check asked about the kept rows with this row behind them
   pub initialization-told : (h : IgvmInitializationHeader) (f : Fault) (found : Bool) (new : Region) → h ≡ initializationOf (rowKind s (c .row)) (bodyOf s (c .row))
       → ((ps : Rows IgvmPlatformHeader) (xs : Rows IgvmInitializationHeader) (j : ℕ) → HoldsPlatforms p ps → h ≡ xs .row j
-      → HoldsClashes (q .mask) (q .gpa) (q .size) (q .«page_table») (q .count) (before j xs) → Covers reach (before j xs) → InitializationStepped a ps xs j f found new)
+      → HoldsClashes (q .mask) (q .gpa) (q .size) (q .«page_table») (q .count) (before j xs) → InitializationStepped a ps xs j f found new)
       → Told s all i f found new
   initialization-told h f found new e step =
       let ks = keptTo s all i in
       let ps = platformsFor all (sheetHeaders s) in
       let row : h ≡ sheetHeaders s .initializations .row i = e ∙ initialization-header s (c .row) i (rw (r .at, r .first-row)) in
       let back = rows-sym (more-before ks h) in
-      let stepped = step ps (more ks h) (ks .count) (r .platforms) (sym (more-last ks h)) (holds-clashes q (before (ks .count) (more ks h)) (holds-same q back (r .holds)))
-      (λ o t. sym (any-rows back (regionPasses (overlap o))) ∙ r .covers o t) in
+      let stepped = step ps (more ks h) (ks .count) (r .platforms) (sym (more-last ks h)) (holds-clashes q (before (ks .count) (more ks h)) (holds-same q back (r .holds))) in
       let told : f ≡ initializationFault a ps ks h = stepped .told ∙ rw (more-last ks h) (initialization-same a h (rows-refl ps) (more-before ks h)) in
       record {
         told = told ∙ rw (r .arch, row);
         region = ap regionOf (sym row ∙ sym (more-last ks h)) ∙ stepped .region;
-        ends = stepped .ends;
       }
 
   room-left : i < n → Room q
@@ -136,27 +135,24 @@ module _ {s : List ℕ} {p : Platforms} {first n : ℕ} {a : Arch} {all : Bool} 
       x : IgvmInitializationHeader
       x = sheetHeaders s .initializations .row i
 
-  covers-next : (f : Fault) (found : Bool) (new : Region) (wider : Reach) → Told s all i f found new
-      → ((o : Region) → apartFrom wider o ≡ true → (apartFrom reach o ≡ true) × ((found && not (isFault f)) ≡ true → overlap o new ≡ false))
-      → Covers wider (keptTo s all (i + 1))
-  covers-next f found new wider t apart =
-      kept-next (ruleFor all (sheetHeaders s)) (sheetHeaders s .initializations) (Covers wider) i f (t .told)
-      (λ e o w. r .covers o (apart o w .0))
-      (λ e. rw add-one at (covers-more reach wider (more ks x) (ks .count) found new (λ o w. any-rows (more-before ks x) (regionPasses (overlap o)) ∙ r .covers o w)
-      (ap regionOf (more-last ks x) ∙ t .region) (λ o w. (apart o w .0, λ y. apart o w .1 (rw (e, y))))))
-    where
-      ks : Rows IgvmInitializationHeader
-      ks = keptTo s all i
+  -- where the region of a kept row comes in order of start: it overlaps none that is kept
+  pub initialization-placed : (f : Fault) (found : Bool) (new : Region) (at from : ℕ) → i < n → Told s all i f found new
+      → Searched new (q .mask) (q .gpa) (q .size) next (q .count) at × (from ≤ q .count) → (found && not (isFault f)) ≡ true
+      → PlacedAt next (q .gpa) (q .count) (new .gpa) at × (from ≤ q .count) × (q .count + 1 < length next)
+  initialization-placed f found new at from l t (searched, low) k =
+      let (is, fine) = and-parts found (not (isFault f)) k in
+      let ks = keptTo s all i in let x = sheetHeaders s .initializations .row i in
+      let (_, _, _, apart) = initialization-says (sheetHeaders s .arch) (platformsFor all (sheetHeaders s)) ks x .0 (rw (← t .told) (not-true (isFault f) fine)) in
+      let none-met = region-fails (λ o. any (regionPasses (overlap o)) ks) x .0 (clash-any overlap ks x ∙ apart) new (t .region ∙ rw is) in
+      let m = initialization-room l .0 in let places = r .places in
+      (searched .free (holds-clashes q ks (r .holds) .overlaps new ∙ none-met), low, omega arith)
 
-      x : IgvmInitializationHeader
-      x = sheetHeaders s .initializations .row i
-
-  -- a row behind which the pass goes on: its word is put where all are, and it leaves no trace where it is faulty
-  pub initialization-next : (next : Cursor) (f : Fault) (found : Bool) (new : Region) (wider : Reach) → i < n → Told s all i f found new → (isFault f && not all) ≡ false
-      → ((o : Region) → apartFrom wider o ≡ true → (apartFrom reach o ≡ true) × ((found && not (isFault f)) ≡ true → overlap o new ≡ false))
-      → next ≡ cursorAt s (c .row + 1)
-      → InitializationsReached s p first n a all lent (cond all (wordPut (first + i) (f .number) words) words) next (stored q (found && not (isFault f)) new) wider (faulty + boolByte (isFault f)) (i + 1)
-  initialization-next next f found new wider l t on apart at =
+  -- a row behind which the pass goes on: its word is put where all are, and it leaves no trace where it is faulty. `kept`: it has a region, which is counted and linked
+  pub initialization-next : (d : Cursor) (f : Fault) (found kept : Bool) (new : Region) (at from : ℕ) (after : List ℕ) (w : Order) → i < n → Told s all i f found new
+      → (isFault f && not all) ≡ false → Searched new (q .mask) (q .gpa) (q .size) next (q .count) at × (from ≤ q .count) → kept ≡ (found && not (isFault f))
+      → after ≡ cond kept (linked next at (q .count)) next → (kept ≡ false → w ≡ order) × (kept ≡ true → More order from (new .size) (q .count) w) → d ≡ cursorAt s (c .row + 1)
+      → InitializationsReached s p first n a all lent (cond all (wordPut (first + i) (f .number) words) words) d (stored q kept new) after w (faulty + boolByte (isFault f)) (i + 1)
+  initialization-next d f found kept new at from after w l t on searched which after-is wider reached =
       let rows = r .rows in
       let counts = sheet-counts s in
       record {
@@ -166,10 +162,15 @@ module _ {s : List ℕ} {p : Platforms} {first n : ℕ} {a : Arch} {all : Bool} 
         rows = r .rows;
         arch = r .arch;
         below = omega arith;
-        at = rw (at, r .at, add-assoc);
+        at = rw (reached, r .at, add-assoc);
         lengths = let (m, g, z, p, v, t) = r .lengths in (simp length-set m, simp length-set g, simp length-set z, simp length-set p, simp length-set v, simp length-set t);
-        holds = regions-next f found new l t;
-        covers = covers-next f found new wider t apart;
+        holds = rw which (regions-next f found new l t);
+        places = rw after-is (linked-length next at (q .count) kept ∙ r .places);
+        ordered =
+            let room = room-left l in
+            rw after-is
+            (ordered-stored next (q .gpa) (q .size) (q .count) order (new .gpa) (new .size) at from w (r .ordered) (room .1) (room .2) kept
+            (λ e. initialization-placed f found new at from l t searched (sym which ∙ e)) wider);
         passed = λ e. rw (any-more i (λ j. isFault (faultAt s all j)), r .passed e, ← t .told) (rw (e, and-true) at on);
         counted = rw (count-more i (λ j. isFault (faultAt s all j)), ← t .told, r .counted, byte-count (isFault f));
         few = let m = r .few in let o = one-at-most (isFault f) in omega arith;

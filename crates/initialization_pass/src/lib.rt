@@ -12,7 +12,7 @@ ghost use Rattle.rules.specs.Report.{keptPlatforms, keptInitializations, faulty
 ghost use Rattle.platform_check.specs.Record.{HoldsPlatforms};
 ghost use Rattle.initialization_check.specs.Record.{HoldsRegions};
 ghost use Rattle.initialization_pass.specs.Passed.{platformsFor, InitializationRowsPassed, InitializationsPassed, Lengths};
-use extents::Reach;
+use by_start::Order;
 use igvm_defs::Arch;
 use igvm_defs::Fault;
 use igvm_defs::Refusal;
@@ -47,8 +47,8 @@ fn note(words: &mut [u8], all: bool, k: usize, fault: Fault, found: bool) -> boo
     found
 }
 
-// 16 to 29 of each initialization row. A row's region is stored in place in any case, and counted where there is one and the row is kept. `all`: faulty rows are
-// skipped, and each row's word is put; else the first fault ends the pass. One loop for both, so that the check has one caller.
+// 16 to 29 of each initialization row. A row's region is stored in any case, and where there is one and the row is kept it is counted, and linked into its place in
+// order of start. `all`: faulty rows are skipped, and each row's word is put; else the first fault ends the pass. One loop for both, so that the check has one caller.
 pub fn initialization_rows(
     s: &[u8],
     first: usize,
@@ -64,7 +64,8 @@ pub fn initialization_rows(
 {
     let mut c = sheet_reader::cursor_at(s, first);
     let mut regions = no_regions();
-    let mut reach = Reach::new();
+    let mut next: [u8; SheetHead::INITIALIZATION_PLACES] = [0; SheetHead::INITIALIZATION_PLACES];
+    let mut order = Order::new();
     let mut faulty = 0;
     let mut i = 0;
     while i < n {
@@ -75,11 +76,12 @@ pub fn initialization_rows(
             arch,
             platforms,
             h,
-            reach,
+            order,
             &regions.mask,
             &regions.gpa,
             &regions.size,
             &regions.page_table,
+            &next,
             k,
         );
         let fault = step.fault;
@@ -100,7 +102,8 @@ pub fn initialization_rows(
         regions.vtl[k] = r.vtl;
         regions.page_table[k] = r.page_table;
         regions.count = k + found as usize;
-        reach = reach.with(found, r);
+        by_start::link(&mut next, step.at, k, found);
+        order = order.with(found, step.from, step.at, r.size, k);
         faulty += wrong as usize;
         c = row.next;
         i += 1;

@@ -2,7 +2,7 @@
 ghost use mathlib.Core.Path.{_≡_};
 ghost use mathlib.Core.Bool.{false};
 ghost use mathlib.Core.List.{[], _∷_};
-ghost use Prim.Native.Nat.{_≤_};
+ghost use Prim.Native.Nat.{_≤_, _<_};
 ghost use lib.ListN.{length};
 ghost use Rattle.igvm_defs.specs.Refusals.{isFault, isRefusal};
 ghost use Rattle.sheet.specs.Head.{limits, headOf, startFault};
@@ -23,13 +23,14 @@ pub fn judge<'a>(
     vtls: &'a mut [u8],
     tables: &'a mut [bool],
     rows: &'a mut [u16],
+    next: &'a mut [u8],
     contexts: &mut [u32; 3],
 ) -> Judged
     requires { ⌜ (isFault (startFault limits (now s)) ≡ false) × (head ≡ headOf (now s)) ⌝ }
-    requires { ⌜ (headOf (now s) .initializations ≤ length (now masks)) × (headOf (now s) .initializations ≤ length (now gpas)) × (headOf (now s) .initializations ≤ length (now sizes)) × (headOf (now s) .initializations ≤ length (now vps)) × (headOf (now s) .initializations ≤ length (now vtls)) × (headOf (now s) .initializations ≤ length (now tables)) × (headOf (now s) .initializations ≤ length (now rows)) ⌝ }
+    requires { ⌜ (headOf (now s) .initializations ≤ length (now masks)) × (headOf (now s) .initializations ≤ length (now gpas)) × (headOf (now s) .initializations ≤ length (now sizes)) × (headOf (now s) .initializations ≤ length (now vps)) × (headOf (now s) .initializations ≤ length (now vtls)) × (headOf (now s) .initializations ≤ length (now tables)) × (headOf (now s) .initializations ≤ length (now rows)) × (headOf (now s) .initializations < length (now next)) ⌝ }
     requires { ⌜ now contexts ≡ (0 ∷ 0 ∷ 0 ∷ []) ⌝ }
     ensures { λ r. ⌜ r .verdict ≡ verdictOf limits (now (s .entry)) ⌝ }
-    ensures { λ r. ⌜ (isRefusal (verdictRefusal limits (now (s .entry))) ≡ false → Kept (now (s .entry)) (regionsIn (now (masks .exit)) (now (gpas .exit)) (now (sizes .exit)) (now (vps .exit)) (now (vtls .exit)) (now (tables .exit)) (r .count)) (now (rows .exit)) (now (contexts .exit))) ⌝ }
+    ensures { λ r. ⌜ (isRefusal (verdictRefusal limits (now (s .entry))) ≡ false → Kept (now (s .entry)) (regionsIn (now (masks .exit)) (now (gpas .exit)) (now (sizes .exit)) (now (vps .exit)) (now (vtls .exit)) (now (tables .exit)) (r .count)) (now (rows .exit)) (now (next .exit)) (now (contexts .exit))) ⌝ }
 {
     let p = head.platforms as usize;
     let i = head.initializations as usize;
@@ -47,6 +48,7 @@ pub fn judge<'a>(
         vtls,
         tables,
         rows,
+        next,
         contexts,
     );
     let size = head.page_size_fault();
@@ -67,6 +69,7 @@ pub fn judge<'a>(
         vtls,
         tables,
         rows,
+        next,
         contexts,
     )
 }

@@ -5,11 +5,8 @@ use Rattle.lent.{specs.Lent.rowsPut, proofs.LentLaws.rows-none}
 use Rattle.sheet.{specs.Head.{Limits, limits, headOf}, specs.Read.Readable, proofs.Readable.readable-bounds}
 use Rattle.sheet_headers.specs.Headers.{sheetHeaders}
 use Rattle.rules.{specs.Relocations.{regionAt, pageTableAt}, specs.declared.IgvmRelocatableRegion.IgvmRelocatableRegion, specs.declared.PageTableRegion.PageTableRegion}
-use Rattle.answers.{proofs.AnswerLaws.{answered, regionsOf, accepted-readable, list-says, found-count}, specs.declared.Answered.Answered, specs.declared.Checked.Checked, specs.Verdict.verdictRefusal, specs.Relocations.{sheetInitializations, maskFault, wordsFault, relocationsRefusal, foundOf, relocationsOf, regionWords, wordsAfter, regionFault, checkRefusal, testRegion, checkOf, answerFor}, specs.BaseRanges.{rangeFault, rangeRefusal}}
-use Rattle.initialization_check.specs.declared.RelocRegions.{RelocRegions}
-use Rattle.keep.specs.Kept.{Kept}
+use Rattle.answers.{proofs.AnswerLaws.{answered, regionsOf, accepted-readable, list-says, found-count}, specs.declared.Answered.Answered, specs.declared.Checked.Checked, specs.Verdict.verdictRefusal, specs.Relocations.{sheetInitializations, maskFault, queryRefusal, wordsFault, relocationsRefusal, foundOf, relocationsOf, regionWords, wordsAfter, regionFault, checkRefusal, testRegion, checkOf, answerFor}, specs.BaseRanges.{rangeFault, rangeRefusal}}
 use Rattle.regions.{specs.declared.FoundRegion.FoundRegion, specs.declared.FoundTable.FoundTable, specs.Found.{foundRegion, foundTable}}
-use Rattle.relocations.specs.Query.{queryRefusal}
 
 abbrev pub checked : Refusal → Bool → Checked
 checked refusal holds = record { refusal = refusal; holds = holds }
@@ -31,12 +28,6 @@ pub found-table : (n : ℕ) (o : Option PageTableRegion) (t : FoundTable) → t 
     → record { refusal = noRefusal; count = n; «has_page_table» = t .found; «page_table» = t .table } ≡ foundOf n o noRefusal
 found-table n none t e = rw e
 found-table n (some q) t e = rw e
-
--- what is kept of an accepted sheet has no more regions than the sheet has initialization rows, which are 64 at most
-pub kept-few : (s : List ℕ) {held : RelocRegions} {numbers contexts : List ℕ} → isRefusal (verdictRefusal limits s) ≡ false → Kept s held numbers contexts
-    → (held .count ≤ headOf s .initializations) × (headOf s .initializations ≤ 64)
-unfolding sheetHeaders
-kept-few s h k = let b = readable-bounds s (accepted-readable limits s h) in (omega (arith, k .regions .count), b .initializations)
 
 -- a count that may be too high where the room is enough for it decides 37 as the count itself
 pub room-same : (n r many : ℕ) → many ≤ r → (n / 64 < r → r ≡ many) → ltb (n / 8) (8 * r) ≡ ltb (n / 8) (8 * many)

@@ -7,7 +7,7 @@ ghost use lib.ListN.{length};
 ghost use Rattle.igvm_defs.specs.Refusals.{noRefusal, isFault, isRefusal};
 ghost use Rattle.sheet.specs.Head.{initializationRows, limits, headOf, startFault};
 ghost use Rattle.rules.specs.Relocations.{regionCount};
-ghost use Rattle.relocations.specs.Query.{queryRefusal};
+ghost use Rattle.answers.specs.Relocations.{queryRefusal};
 ghost use Rattle.answers.specs.Relocations.{sheetInitializations, foundOf, relocationsRefusal, relocationsOf, wordsAfter, checkRefusal, baseCheckOf, containsOf};
 ghost use Rattle.answers.specs.BaseRanges.{rangeRefusal, baseRangeOf};
 use answers::Answered;
@@ -37,9 +37,10 @@ fn count_judged<'a>(
     vtls: &'a mut [u8],
     tables: &'a mut [bool],
     rows: &'a mut [u16],
+    next: &'a mut [u8],
 ) -> Counted
     requires { ⌜ (isFault (startFault limits (now s)) ≡ false) × (head ≡ headOf (now s)) ⌝ }
-    requires { ⌜ (headOf (now s) .initializations ≤ length (now masks)) × (headOf (now s) .initializations ≤ length (now gpas)) × (headOf (now s) .initializations ≤ length (now sizes)) × (headOf (now s) .initializations ≤ length (now vps)) × (headOf (now s) .initializations ≤ length (now vtls)) × (headOf (now s) .initializations ≤ length (now tables)) × (headOf (now s) .initializations ≤ length (now rows)) ⌝ }
+    requires { ⌜ (headOf (now s) .initializations ≤ length (now masks)) × (headOf (now s) .initializations ≤ length (now gpas)) × (headOf (now s) .initializations ≤ length (now sizes)) × (headOf (now s) .initializations ≤ length (now vps)) × (headOf (now s) .initializations ≤ length (now vtls)) × (headOf (now s) .initializations ≤ length (now tables)) × (headOf (now s) .initializations ≤ length (now rows)) × (headOf (now s) .initializations < length (now next)) ⌝ }
     ensures { λ r. ⌜ (r .refusal ≡ queryRefusal limits (now (s .entry)) given) × (r .count ≤ initializationRows) ⌝ }
     ensures { λ r. ⌜ (isRefusal (r .refusal) ≡ false → (regionCount (sheetInitializations (now (s .entry))) given ≤ r .count) × (room < r .count → r .count ≡ regionCount (sheetInitializations (now (s .entry))) given)) ⌝ }
 {
@@ -54,6 +55,7 @@ fn count_judged<'a>(
         vtls,
         tables,
         rows,
+        next,
         &mut contexts,
     );
     let verdict = judged.verdict;
@@ -80,6 +82,7 @@ fn query_few(s: &[u8], head: SheetHead, given: u32, room: usize) -> Counted
     let mut vtls: [u8; 4] = [0; 4];
     let mut tables: [bool; 4] = [false; 4];
     let mut rows: [u16; 4] = [0; 4];
+    let mut next: [u8; 5] = [0; 5];
     count_judged(
         s,
         head,
@@ -92,6 +95,7 @@ fn query_few(s: &[u8], head: SheetHead, given: u32, room: usize) -> Counted
         &mut vtls,
         &mut tables,
         &mut rows,
+        &mut next,
     )
 }
 
@@ -108,6 +112,7 @@ fn query_many(s: &[u8], head: SheetHead, given: u32, room: usize) -> Counted
     let mut tables: [bool; SheetHead::INITIALIZATION_ROWS] =
         [false; SheetHead::INITIALIZATION_ROWS];
     let mut rows: [u16; SheetHead::INITIALIZATION_ROWS] = [0; SheetHead::INITIALIZATION_ROWS];
+    let mut next: [u8; SheetHead::INITIALIZATION_PLACES] = [0; SheetHead::INITIALIZATION_PLACES];
     count_judged(
         s,
         head,
@@ -120,6 +125,7 @@ fn query_many(s: &[u8], head: SheetHead, given: u32, room: usize) -> Counted
         &mut vtls,
         &mut tables,
         &mut rows,
+        &mut next,
     )
 }
 

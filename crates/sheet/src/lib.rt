@@ -27,6 +27,8 @@ impl SheetHead {
     pub const PLATFORM_ROWS: usize = 16;
 
     pub const INITIALIZATION_ROWS: usize = 64;
+    // One place for each, and one before them.
+    pub const INITIALIZATION_PLACES: usize = 65;
 
     pub const DIRECTIVE_ROWS: usize = 8192;
 

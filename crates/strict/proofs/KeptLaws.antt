@@ -78,15 +78,15 @@ module _ (f : Headers) (held : RelocRegions) (rows contexts : List ℕ) (regions
       fault-stop (f .platforms .count) (f .initializations .count) faults i (of .below) earlier fails ∙ rw (here, of .number)
 
 -- what is kept has room in arrays that have room for the initialization rows
-pub kept-room : (s : List ℕ) {masks gpas sizes vps vtls : List ℕ} {tables : List Bool} {n : ℕ} {numbers contexts : List ℕ}
-    → Kept s (regionsIn masks gpas sizes vps vtls tables n) numbers contexts
+pub kept-room : (s : List ℕ) {masks gpas sizes vps vtls : List ℕ} {tables : List Bool} {n : ℕ} {numbers next contexts : List ℕ}
+    → Kept s (regionsIn masks gpas sizes vps vtls tables n) numbers next contexts
     → headOf s .initializations ≤ length masks → headOf s .initializations ≤ length vtls → headOf s .initializations ≤ length numbers
     → (n ≤ length masks) × (n ≤ length vtls) × (n ≤ length numbers) × (length contexts ≡ 3)
 unfolding sheetHeaders
 kept-room s k m v r = let few = k .regions .count in (omega arith, omega arith, omega arith, k .vtls)
 
 -- and each of its regions has one of three VTLs
-pub kept-vtls : (s : List ℕ) {held : RelocRegions} {numbers contexts : List ℕ} → Kept s held numbers contexts
+pub kept-vtls : (s : List ℕ) {held : RelocRegions} {numbers next contexts : List ℕ} → Kept s held numbers next contexts
     → (e : ℕ) → e < held .count → getD (held .vtl) e 0 < 3
 kept-vtls s {held} k e l = let (i, of) = k .rows .each e l in region-vtl (sheetHeaders s .initializations .row i) (entry held e) (of .region)
 
@@ -103,8 +103,8 @@ module _ (s : List ℕ) (v : Verdict) (told : v ≡ verdictOf limits s) where
   ordinary-refusal t = refusal-of ∙ sym (orElse-first (verdictRefusal limits s) _ (rw refusal-of at t))
 
   -- past the verdict 38, or none
-  pub strict-refusal : isRefusal (v .refusal) ≡ false → {held : RelocRegions} {numbers contexts : List ℕ}
-      → (isRefusal (verdictRefusal limits s) ≡ false → Kept s held numbers contexts) → (r : Refusal)
+  pub strict-refusal : isRefusal (v .refusal) ≡ false → {held : RelocRegions} {numbers next contexts : List ℕ}
+      → (isRefusal (verdictRefusal limits s) ≡ false → Kept s held numbers next contexts) → (r : Refusal)
       → ((f : Headers) → HoldsRegions held (f .initializations) → HoldsRows (f .platforms .count) numbers held (f .initializations) → HoldsContexts contexts (f .directives) → r ≡ contextsRefusal f)
       → r ≡ strictRefusal limits s
   unfolding strictRefusal sheetHeaders

@@ -63,7 +63,7 @@ fn strictly<'a>(
     contexts: &'a [u32; 3],
 ) -> Refusal
     requires { ⌜ (isRefusal (judged .verdict .refusal) ≡ false → (judged .count ≤ length (now masks)) × (judged .count ≤ length (now vtls)) × (judged .count ≤ length (now rows)) × (length (now contexts) ≡ 3)) ⌝ }
-    ensures { λ r. ⌜ ((s gpas sizes vps : List ℕ) (tables : List Bool) → judged .verdict ≡ verdictOf limits s → (isRefusal (verdictRefusal limits s) ≡ false → Kept s (regionsIn (now (masks .entry)) gpas sizes vps (now (vtls .entry)) tables (judged .count)) (now (rows .entry)) (now (contexts .entry))) → r ≡ strictRefusal limits s) ⌝ }
+    ensures { λ r. ⌜ ((s gpas sizes vps next : List ℕ) (tables : List Bool) → judged .verdict ≡ verdictOf limits s → (isRefusal (verdictRefusal limits s) ≡ false → Kept s (regionsIn (now (masks .entry)) gpas sizes vps (now (vtls .entry)) tables (judged .count)) (now (rows .entry)) next (now (contexts .entry))) → r ≡ strictRefusal limits s) ⌝ }
 {
     let verdict = judged.verdict;
     let refusal = verdict.refusal;
@@ -82,7 +82,7 @@ fn strictly_many<'a>(
     contexts: &'a [u32; 3],
 ) -> Refusal
     requires { ⌜ (isRefusal (judged .verdict .refusal) ≡ false → ((judged .count ≤ length (now masks)) × (judged .count ≤ length (now vtls)) × (judged .count ≤ length (now rows)) × (length (now contexts) ≡ 3)) × ((e : ℕ) → e < judged .count → getD (now vtls) e 0 < 3)) ⌝ }
-    ensures { λ r. ⌜ ((s gpas sizes vps : List ℕ) (tables : List Bool) → judged .verdict ≡ verdictOf limits s → (isRefusal (verdictRefusal limits s) ≡ false → Kept s (regionsIn (now (masks .entry)) gpas sizes vps (now (vtls .entry)) tables (judged .count)) (now (rows .entry)) (now (contexts .entry))) → r ≡ strictRefusal limits s) ⌝ }
+    ensures { λ r. ⌜ ((s gpas sizes vps next : List ℕ) (tables : List Bool) → judged .verdict ≡ verdictOf limits s → (isRefusal (verdictRefusal limits s) ≡ false → Kept s (regionsIn (now (masks .entry)) gpas sizes vps (now (vtls .entry)) tables (judged .count)) (now (rows .entry)) next (now (contexts .entry))) → r ≡ strictRefusal limits s) ⌝ }
 {
     let verdict = judged.verdict;
     let refusal = verdict.refusal;
@@ -105,6 +105,7 @@ fn strict_few(s: &[u8], head: SheetHead) -> Refusal
     let mut vtls: [u8; 4] = [0; 4];
     let mut tables: [bool; 4] = [false; 4];
     let mut rows: [u16; 4] = [0; 4];
+    let mut next: [u8; 5] = [0; 5];
     let mut contexts: [u32; 3] = [0; 3];
     let judged = judge::judge(
         s,
@@ -116,6 +117,7 @@ fn strict_few(s: &[u8], head: SheetHead) -> Refusal
         &mut vtls,
         &mut tables,
         &mut rows,
+        &mut next,
         &mut contexts,
     );
     strictly(judged, &masks, &vtls, &rows, &contexts)
@@ -133,6 +135,7 @@ fn strict_many(s: &[u8], head: SheetHead) -> Refusal
     let mut tables: [bool; SheetHead::INITIALIZATION_ROWS] =
         [false; SheetHead::INITIALIZATION_ROWS];
     let mut rows: [u16; SheetHead::INITIALIZATION_ROWS] = [0; SheetHead::INITIALIZATION_ROWS];
+    let mut next: [u8; SheetHead::INITIALIZATION_PLACES] = [0; SheetHead::INITIALIZATION_PLACES];
     let mut contexts: [u32; 3] = [0; 3];
     let judged = judge::judge(
         s,
@@ -144,6 +147,7 @@ fn strict_many(s: &[u8], head: SheetHead) -> Refusal
         &mut vtls,
         &mut tables,
         &mut rows,
+        &mut next,
         &mut contexts,
     );
     strictly_many(judged, &masks, &vtls, &rows, &contexts)

@@ -1,2 +1,3 @@
 pub mod VerdictLaws
 pub mod StartLaws
+pub mod KeptLaws

@@ -1,7 +1,7 @@
 // The verdict by the passes over the headers: what is wrong with a sheet, from the first row on that is not known to be in order, or what is kept of it.
 ghost use mathlib.Core.Path.{_≡_};
 ghost use mathlib.Core.Bool.{false};
-ghost use Prim.Native.Nat.{_-_, _≤_};
+ghost use Prim.Native.Nat.{_-_, _≤_, _<_};
 ghost use lib.ListN.{length};
 ghost use Rattle.rows.specs.Below.{anyBelow};
 ghost use Rattle.rows.specs.Rows.{before};
@@ -206,12 +206,13 @@ pub fn judge_from<'a>(
     vtls: &'a mut [u8],
     tables: &'a mut [bool],
     rows: &'a mut [u16],
+    next: &'a mut [u8],
     contexts: &mut [u32; 3],
 ) -> Judged
     requires { ⌜ (isFault (startFault limits (now s)) ≡ false) × (head ≡ headOf (now s)) × ReadTo (now s) from × (firstDirective (now s) ≤ from .row → DirectivesAccepted (now s) from (now contexts)) ⌝ }
-    requires { ⌜ (headOf (now s) .initializations ≤ length (now masks)) × (headOf (now s) .initializations ≤ length (now gpas)) × (headOf (now s) .initializations ≤ length (now sizes)) × (headOf (now s) .initializations ≤ length (now vps)) × (headOf (now s) .initializations ≤ length (now vtls)) × (headOf (now s) .initializations ≤ length (now tables)) × (headOf (now s) .initializations ≤ length (now rows)) ⌝ }
+    requires { ⌜ (headOf (now s) .initializations ≤ length (now masks)) × (headOf (now s) .initializations ≤ length (now gpas)) × (headOf (now s) .initializations ≤ length (now sizes)) × (headOf (now s) .initializations ≤ length (now vps)) × (headOf (now s) .initializations ≤ length (now vtls)) × (headOf (now s) .initializations ≤ length (now tables)) × (headOf (now s) .initializations ≤ length (now rows)) × (headOf (now s) .initializations < length (now next)) ⌝ }
     ensures { λ r. ⌜ r .verdict ≡ verdictOf limits (now (s .entry)) ⌝ }
-    ensures { λ r. ⌜ (isRefusal (verdictRefusal limits (now (s .entry))) ≡ false → Kept (now (s .entry)) (regionsIn (now (masks .exit)) (now (gpas .exit)) (now (sizes .exit)) (now (vps .exit)) (now (vtls .exit)) (now (tables .exit)) (r .count)) (now (rows .exit)) (now (contexts .exit))) ⌝ }
+    ensures { λ r. ⌜ (isRefusal (verdictRefusal limits (now (s .entry))) ≡ false → Kept (now (s .entry)) (regionsIn (now (masks .exit)) (now (gpas .exit)) (now (sizes .exit)) (now (vps .exit)) (now (vtls .exit)) (now (tables .exit)) (r .count)) (now (rows .exit)) (now (next .exit)) (now (contexts .exit))) ⌝ }
 {
     let pass = validate_from(s, head, from, kept_contexts(contexts));
     let refusal = pass.refusal;
@@ -223,7 +224,7 @@ pub fn judge_from<'a>(
     }
     let found = pass.contexts;
     keep_contexts(contexts, found);
-    let count = keep::keep_regions(s, head, masks, gpas, sizes, vps, vtls, tables, rows);
+    let count = keep::keep_regions(s, head, masks, gpas, sizes, vps, vtls, tables, rows, next);
     Judged {
         verdict: accepted(head),
         count,

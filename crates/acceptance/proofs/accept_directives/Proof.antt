@@ -25,10 +25,10 @@ returns-2 c =
     let a = c .before .before .before .before .before .accept .ensures .0 in
     let (l, whole) = behind (c .before .before) in (
       (a, refl),
-      λ numbers held e. all-none _ _ _ _ _ _ _ _ numbers _ _ _ (p .1 .1 .0) a (omega (arith, p .0 .1)) whole (c .before .before .before .before .before .accept .ensures .1) (sym (c .any-lacks .ensures) ∙ not-true _ e) held,
+      λ numbers order held by e. all-none _ _ _ _ _ _ _ _ numbers order _ _ _ (p .1 .1 .0) a (omega (arith, p .0 .1)) whole (c .before .before .before .before .before .accept .ensures .1) (sym (c .any-lacks .ensures) ∙ not-true _ e) held by,
     )
 
 pub accept-directives-spec : {M : Type 1} → statement M
 accept-directives-spec =
-    tie.close (tie.spec accept-requires (λ c. ((c .before .before .before .accept .ensures .0, refl), λ numbers rows e. absurd (false≢true e)))
+    tie.close (tie.spec accept-requires (λ c. ((c .before .before .before .accept .ensures .0, refl), λ numbers order rows by e. absurd (false≢true e)))
     any-lacks-requires returns-2)

@@ -2,7 +2,7 @@ use Rattle.rows.{proofs.Kit.{_≡_, ap, sym, _∙_, true, false, arith, now, ne
 use Rattle.igvm_defs.{specs.Refusals.{isFault, isRefusal, inRow}, proofs.RefusalLaws.{row-refusal, orElse-first}}
 use Rattle.sheet.{specs.Head.{limits, startFault}, proofs.Readable.start-says}
 use Rattle.validation.proofs.VerdictLaws.{verdict-start}
-use Rattle.relocations.specs.Query.{queryRefusal}
+use Rattle.answers.specs.Relocations.{queryRefusal}
 use Rattle.relocations.proofs.query.Statement.{statement}
 use Rattle.relocations.proofs.query.Tie as tie
 

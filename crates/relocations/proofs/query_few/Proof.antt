@@ -5,12 +5,12 @@ use Rattle.relocations.proofs.query_few.Tie as tie
 
 count-judged-requires : tie.Need-count-judged-requires
 count-judged-requires c κs =
-    let p = c .before .before .before .before .before .before .before .before .pre in
+    let p = c .before .before .before .before .before .before .before .before .before .pre in
     let e = ap (λ (y : SheetHead). y .initializations) (p .1) in
-    let n : headOf (now (c .before .before .before .before .before .before .before .before .args .s)) .initializations ≤ 4 = omega (arith, p) in
-    ((p .0, p .1), (n, n, n, n, n, n, n))
+    let n : headOf (now (c .before .before .before .before .before .before .before .before .before .args .s)) .initializations ≤ 4 = omega (arith, p) in
+    ((p .0, p .1), (n, n, n, n, n, n, n, omega arith))
 
 pub query-few-spec : {M : Type 1} → statement M
 query-few-spec =
-    tie.close (tie.spec (λ c. search needs) (λ c. search needs) (λ c. search needs) (λ c. search needs) (λ c. search needs)
+    tie.close (tie.spec (λ c. search needs) (λ c. search needs) (λ c. search needs) (λ c. search needs) (λ c. search needs) (λ c. search needs)
     (λ c. search needs) (λ c. search needs) count-judged-requires (λ c. search needs))
