@@ -9,6 +9,7 @@ ghost use Rattle.answers.specs.Strict.{strictVerdictOf};
 ghost use Rattle.answers.specs.Report.{reportOf, reportAfter};
 ghost use Rattle.answers.specs.Relocations.{relocationsOf, wordsAfter, baseCheckOf, containsOf};
 ghost use Rattle.answers.specs.BaseRanges.{baseRangeOf};
+ghost use Rattle.answers.specs.Owner.{regionOwnerOf, regionIndexOf, indexAfter, regionIn};
 ghost use Rattle.answers.specs.Region.{regionBaseCheckOf, regionContainsOf};
 ghost use Rattle.answers.specs.Numbers.{numberOf, verdictNumbers, reportNumbers, relocationNumbers, answerNumbers, checkNumbers};
 use answers::Report;
@@ -300,4 +301,78 @@ pub extern "C" fn igvm_region_contains(region: &[u8], gpa: u64) -> u64
     ensures { λ r. ⌜ r ≡ regionContainsOf (now (region .entry)) gpa ⌝ }
 {
     region_check::contains(region, gpa)
+}
+
+// ---- the owner of an address: 0 number, 1 row, 2 detail, 3 the row of the region that contains the address, or 0
+
+fn region_owner(sheet: &[u8], mask: u32, gpa: u64, which: u32, lent: &mut [u8]) -> u64
+    ensures { λ r. ⌜ r ≡ numberOf which (answerNumbers (regionOwnerOf limits (now (sheet .entry)) mask gpa)) ⌝ }
+    ensures { λ _. ⌜ now (lent .exit) ≡ numbersPut (answerNumbers (regionOwnerOf limits (now (sheet .entry)) mask gpa)) (now (lent .entry)) ⌝ }
+{
+    let found = numbers::answer_numbers(owner::region_of(sheet, mask, gpa));
+    numbers::tell(&found, which, lent)
+}
+
+#[no_mangle]
+pub extern "C" fn igvm_region_of(sheet: &[u8], mask: u32, gpa: u64, which: u32) -> u64
+    ensures { λ r. ⌜ r ≡ numberOf which (answerNumbers (regionOwnerOf limits (now (sheet .entry)) mask gpa)) ⌝ }
+{
+    let mut none: [u8; 0] = [];
+    region_owner(sheet, mask, gpa, which, &mut none)
+}
+
+#[no_mangle]
+pub extern "C" fn igvm_region_of_numbers(
+    sheet: &[u8],
+    mask: u32,
+    gpa: u64,
+    numbers: &mut [u8],
+) -> u64
+    ensures { λ r. ⌜ r ≡ numberOf 0 (answerNumbers (regionOwnerOf limits (now (sheet .entry)) mask gpa)) ⌝ }
+    ensures { λ _. ⌜ now (numbers .exit) ≡ numbersPut (answerNumbers (regionOwnerOf limits (now (sheet .entry)) mask gpa)) (now (numbers .entry)) ⌝ }
+{
+    region_owner(sheet, mask, gpa, 0, numbers)
+}
+
+// ---- the index of a mask's regions: 0 number, 1 row, 2 detail, 3 count. `words` takes start, size and row of each region, in order of start
+
+fn region_index(sheet: &[u8], mask: u32, words: &mut [u8], which: u32, lent: &mut [u8]) -> u64
+    ensures { λ r. ⌜ r ≡ numberOf which (answerNumbers (regionIndexOf limits (now (sheet .entry)) mask (length (now (words .entry))))) ⌝ }
+    ensures { λ _. ⌜ now (words .exit) ≡ indexAfter limits (now (sheet .entry)) mask (now (words .entry)) ⌝ }
+    ensures { λ _. ⌜ now (lent .exit) ≡ numbersPut (answerNumbers (regionIndexOf limits (now (sheet .entry)) mask (length (now (words .entry))))) (now (lent .entry)) ⌝ }
+{
+    let found = numbers::answer_numbers(owner::region_index(sheet, mask, words));
+    numbers::tell(&found, which, lent)
+}
+
+#[no_mangle]
+pub extern "C" fn igvm_region_index(sheet: &[u8], mask: u32, words: &mut [u8], which: u32) -> u64
+    ensures { λ r. ⌜ r ≡ numberOf which (answerNumbers (regionIndexOf limits (now (sheet .entry)) mask (length (now (words .entry))))) ⌝ }
+    ensures { λ _. ⌜ now (words .exit) ≡ indexAfter limits (now (sheet .entry)) mask (now (words .entry)) ⌝ }
+{
+    let mut none: [u8; 0] = [];
+    region_index(sheet, mask, words, which, &mut none)
+}
+
+#[no_mangle]
+pub extern "C" fn igvm_region_index_numbers(
+    sheet: &[u8],
+    mask: u32,
+    words: &mut [u8],
+    numbers: &mut [u8],
+) -> u64
+    ensures { λ r. ⌜ r ≡ numberOf 0 (answerNumbers (regionIndexOf limits (now (sheet .entry)) mask (length (now (words .entry))))) ⌝ }
+    ensures { λ _. ⌜ now (words .exit) ≡ indexAfter limits (now (sheet .entry)) mask (now (words .entry)) ⌝ }
+    ensures { λ _. ⌜ now (numbers .exit) ≡ numbersPut (answerNumbers (regionIndexOf limits (now (sheet .entry)) mask (length (now (words .entry))))) (now (numbers .entry)) ⌝ }
+{
+    region_index(sheet, mask, words, 0, numbers)
+}
+
+// ---- the owner of an address by the words of an index, without the sheet: number 3 alone
+
+#[no_mangle]
+pub extern "C" fn igvm_region_in(words: &[u8], gpa: u64) -> u64
+    ensures { λ r. ⌜ r ≡ regionIn (now (words .entry)) gpa ⌝ }
+{
+    region_check::region_in(words, gpa)
 }

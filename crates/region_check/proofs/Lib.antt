@@ -1,4 +1,5 @@
 mod RegionLaws
 mod WordLaws
+mod InLaws
 pub mod AgreementLaws
 pub mod LookupLaws

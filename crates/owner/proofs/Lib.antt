@@ -1,0 +1,3 @@
+mod OwnerLaws
+mod FillLaws
+mod CallLaws
