@@ -30,6 +30,8 @@ mod linked {
             highest: u64,
             which: u32,
         ) -> u64;
+        fn igvm_region_of(sheet: *const u8, sheet_len: usize, mask: u32, gpa: u64, which: u32) -> u64;
+        fn igvm_region_index(sheet: *const u8, sheet_len: usize, mask: u32, words: *mut u8, words_len: usize, which: u32) -> u64;
         fn igvm_verdict_numbers(sheet: *const u8, sheet_len: usize, numbers: *mut u8, numbers_len: usize) -> u64;
         fn igvm_strict_verdict_numbers(sheet: *const u8, sheet_len: usize, numbers: *mut u8, numbers_len: usize) -> u64;
         fn igvm_report_numbers(
@@ -77,8 +79,26 @@ mod linked {
             numbers: *mut u8,
             numbers_len: usize,
         ) -> u64;
+        fn igvm_region_of_numbers(
+            sheet: *const u8,
+            sheet_len: usize,
+            mask: u32,
+            gpa: u64,
+            numbers: *mut u8,
+            numbers_len: usize,
+        ) -> u64;
+        fn igvm_region_index_numbers(
+            sheet: *const u8,
+            sheet_len: usize,
+            mask: u32,
+            words: *mut u8,
+            words_len: usize,
+            numbers: *mut u8,
+            numbers_len: usize,
+        ) -> u64;
         fn igvm_region_base_valid(region: *const u8, region_len: usize, base: u64) -> u64;
         fn igvm_region_contains(region: *const u8, region_len: usize, gpa: u64) -> u64;
+        fn igvm_region_in(words: *const u8, words_len: usize, gpa: u64) -> u64;
     }
 
     // SAFETY, for all: the pointers and lengths are those of live slices, of which those that are lent share nothing with another, and the functions
@@ -130,6 +150,15 @@ mod linked {
         unsafe { igvm_relocation_base_range(pointer(sheet, which as usize), sheet.len(), mask, region, lowest, highest, which) }
     }
 
+    fn region_of(sheet: &[u8], mask: u32, gpa: u64, which: u32) -> u64 {
+        unsafe { igvm_region_of(pointer(sheet, which as usize), sheet.len(), mask, gpa, which) }
+    }
+
+    fn region_index(sheet: &[u8], mask: u32, words: &mut [u8], which: u32) -> u64 {
+        let beside = which as usize;
+        unsafe { igvm_region_index(pointer(sheet, beside), sheet.len(), mask, lent(words, beside), words.len(), which) }
+    }
+
     fn verdict_numbers(sheet: &[u8], numbers: &mut [u8]) -> u64 {
         let sheet_start = pointer(sheet, numbers.len());
         unsafe { igvm_verdict_numbers(sheet_start, sheet.len(), lent(numbers, sheet.len()), numbers.len()) }
@@ -167,12 +196,27 @@ mod linked {
         unsafe { igvm_relocation_base_range_numbers(sheet_start, sheet.len(), mask, region, lowest, highest, numbers_start, numbers.len()) }
     }
 
+    fn region_of_numbers(sheet: &[u8], mask: u32, gpa: u64, numbers: &mut [u8]) -> u64 {
+        let (sheet_start, numbers_start) = (pointer(sheet, numbers.len()), lent(numbers, sheet.len()));
+        unsafe { igvm_region_of_numbers(sheet_start, sheet.len(), mask, gpa, numbers_start, numbers.len()) }
+    }
+
+    fn region_index_numbers(sheet: &[u8], mask: u32, words: &mut [u8], numbers: &mut [u8]) -> u64 {
+        let (sheet_start, words_start) = (pointer(sheet, numbers.len()), lent(words, numbers.len()));
+        let numbers_start = lent(numbers, sheet.len());
+        unsafe { igvm_region_index_numbers(sheet_start, sheet.len(), mask, words_start, words.len(), numbers_start, numbers.len()) }
+    }
+
     fn region_base_valid(region: &[u8], base: u64) -> u64 {
         unsafe { igvm_region_base_valid(pointer(region, base as usize), region.len(), base) }
     }
 
     fn region_contains(region: &[u8], gpa: u64) -> u64 {
         unsafe { igvm_region_contains(pointer(region, gpa as usize), region.len(), gpa) }
+    }
+
+    fn region_in(index: &[u8], gpa: u64) -> u64 {
+        unsafe { igvm_region_in(pointer(index, gpa as usize), index.len(), gpa) }
     }
 
     pub const CALLS: Calls = Calls {
@@ -183,6 +227,8 @@ mod linked {
         relocation_base_valid,
         contains,
         relocation_base_range,
+        region_of,
+        region_index,
         verdict_numbers,
         strict_verdict_numbers,
         report_numbers,
@@ -190,7 +236,10 @@ mod linked {
         relocation_base_valid_numbers,
         contains_numbers,
         relocation_base_range_numbers,
+        region_of_numbers,
+        region_index_numbers,
         region_base_valid,
         region_contains,
+        region_in,
     };
 }

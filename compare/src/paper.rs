@@ -1,7 +1,7 @@
 // Document 01 in plain Rust, in its order, with the refusal's number beside each test; and of document 02 the report, the strict verdict, why a base
-// is not valid, and the answer over a range of bases. It is written for reading, not for speed. It is what the calls are compared with where the Rust
-// has no answer: 1 to 6, 19, 27, 28, 35 to 38, 50, regions' words that it can't hold, why a base is not valid, ranges of more multiples than are tried,
-// and reports on more rows than it is asked about.
+// is not valid, the answer over a range of bases, and which region has an address. It is written for reading, not for speed. It is what the calls are
+// compared with where the Rust has no answer: 1 to 6, 19, 27, 28, 35 to 38, 50, regions' words that it can't hold, why a base is not valid, ranges of
+// more multiples than are tried, reports on more rows than it is asked about, and an index that a call has put or that is any bytes.
 // mutations.txt edits this text: each wrong copy must be caught.
 
 use calls::Calls;
@@ -191,7 +191,7 @@ struct Region {
     vtl: u64,
 }
 
-fn region_of(row: &Row) -> Option<Region> {
+fn as_region(row: &Row) -> Option<Region> {
     let (kind, mask) = (row.kind, row.field(0, 4));
     match kind {
         18 => {
@@ -217,7 +217,7 @@ fn initialization_rows(sheet: &Sheet) -> Result<Vec<Region>, Refusal> {
     let mut earlier = Vec::new();
     for row in &sheet.initializations {
         initialization_row(sheet.arch, row, &platforms, &earlier)?;
-        earlier.extend(region_of(row));
+        earlier.extend(as_region(row));
     }
     Ok(earlier)
 }
@@ -230,7 +230,7 @@ fn initialization_row(arch: u64, row: &Row, platforms: &[&Row], earlier: &[Regio
         19 => page_table(row, earlier)?,
         _ => {}
     }
-    region_of(row).map_or(Ok(()), |region| sound_region(row.number, &region, earlier))
+    as_region(row).map_or(Ok(()), |region| sound_region(row.number, &region, earlier))
 }
 
 /// Kind 17: 16, 24, 25.
@@ -412,7 +412,7 @@ pub fn verdict(s: &[u8]) -> [u64; 6] {
 /// 38: for each bit of the mask of a region of either kind there must be a VBS context of the region's VTL with that bit. The first such region by its
 /// row is named, and its lowest such bit.
 fn bits_have_contexts(sheet: &Sheet) -> Checked {
-    let regions = sheet.initializations.iter().filter_map(|row| Some((row.number, region_of(row)?)));
+    let regions = sheet.initializations.iter().filter_map(|row| Some((row.number, as_region(row)?)));
     for (number, region) in regions {
         for bit in bits(region.mask) {
             let has_bit = |context: &Row| context.field(4, 1) == region.vtl && context.field(0, 4) & bit != 0;
@@ -458,7 +458,7 @@ impl<'a> Kept<'a> {
     fn keep(&mut self, row: &'a Row<'a>) {
         match row.kind {
             1 => self.platforms.push(row),
-            16..=19 => self.regions.extend(region_of(row)),
+            16..=19 => self.regions.extend(as_region(row)),
             _ => {
                 mark_area(row, &mut self.areas);
                 self.directives.push(row);
@@ -525,11 +525,17 @@ struct Found {
     page_table: Option<Region>,
 }
 
-fn find(s: &[u8], mask: u32) -> Result<Found, Refusal> {
+/// The rows of the regions of a mask, of either kind, in header order.
+fn rows_of(s: &[u8], mask: u32) -> Result<Vec<Row<'_>>, Refusal> {
     let sheet = accepted(s)?;
     refuse(mask == 0, 35, 0, 0)?;
-    let of_kind = |kind: u64| sheet.initializations.iter().filter(move |row| row.kind == kind && matches_mask(row, mask));
-    Ok(Found { regions: of_kind(18).map(words_of).collect(), page_table: of_kind(19).find_map(region_of) })
+    Ok(sheet.initializations.into_iter().filter(|row| matches!(row.kind, 18 | 19) && matches_mask(row, mask)).collect())
+}
+
+fn find(s: &[u8], mask: u32) -> Result<Found, Refusal> {
+    let rows = rows_of(s, mask)?;
+    let of_kind = |kind: u64| rows.iter().filter(move |row| row.kind == kind);
+    Ok(Found { regions: of_kind(18).map(words_of).collect(), page_table: of_kind(19).find_map(as_region) })
 }
 
 fn words_of(row: &Row) -> Words {
@@ -661,6 +667,58 @@ pub fn relocation_base_range(s: &[u8], mask: u32, region: u64, lowest: u64, high
     }
 }
 
+// ---- which region has an address (document 02, request 9): the verdict, 35, and for an index 37
+
+/// Number 3 is the row of the region of the mask, of either kind, that contains the address, by reading all of them; 0 where none does.
+pub fn region_of(s: &[u8], mask: u32, gpa: u64) -> [u64; 4] {
+    match rows_of(s, mask) {
+        Ok(rows) => [0, 0, 0, rows.iter().find(|row| has_address(row, gpa)).map_or(0, |row| row.number)],
+        Err(Refusal(number, row, detail)) => [number, row, detail, 0],
+    }
+}
+
+/// From a region's first address up to, not including, its end. All of a page table counts, not only what is used of it.
+fn has_address(row: &Row, gpa: u64) -> bool {
+    as_region(row).is_some_and(|region| gpa >= region.gpa && u128::from(gpa) < end(region.gpa, region.size))
+}
+
+/// Of each of these regions its start, its size and its row, the lowest start first.
+fn index_of(rows: &[Row]) -> Vec<[u64; 3]> {
+    let entry = |row: &Row| as_region(row).map(|region| [region.gpa, region.size, row.number]);
+    let mut index: Vec<[u64; 3]> = rows.iter().filter_map(entry).collect();
+    index.sort_by_key(|entry| entry[0]);
+    index
+}
+
+fn index_into(s: &[u8], mask: u32, lent: &mut [u8]) -> Result<[u64; 4], Refusal> {
+    let index = index_of(&rows_of(s, mask)?);
+    refuse(lent.len() / 8 < 3 * index.len(), 37, 0, 0)?;
+    for (k, word) in index.iter().flatten().enumerate() {
+        lent[8 * k..][..8].copy_from_slice(&word.to_le_bytes());
+    }
+    Ok([0, 0, 0, index.len() as u64])
+}
+
+/// Number, row, detail, and how many regions of either kind the mask has. Their words go to the front of the lent bytes.
+pub fn region_index(s: &[u8], mask: u32, lent: &mut [u8]) -> [u64; 4] {
+    index_into(s, mask, lent).unwrap_or_else(|Refusal(number, row, detail)| [number, row, detail, 0])
+}
+
+/// The row of the first entry of an index that contains the address, if none before it starts above the address; else 0. Bytes short of an entry do not
+/// count.
+pub fn region_in(index: &[u8], gpa: u64) -> u64 {
+    for entry in index.chunks_exact(24) {
+        let [start, size, row] = [0, 8, 16].map(|at| le(entry, at, 8));
+        if start > gpa {
+            return 0;
+        }
+        if u128::from(gpa) < end(start, size) {
+            return row;
+        }
+    }
+    0
+}
+
 // ---- the same checks by a region's eight words alone, without the sheet: number 3 of the answer, 0 where the bytes are no region
 
 /// The words of a region's bytes. Fewer than 64 bytes are no region, and bytes behind them do not count.
@@ -704,6 +762,8 @@ pub const CALLS: Calls = Calls {
     relocation_base_range: |s, mask, region, lowest, highest, which| {
         number(which, &relocation_base_range(s, mask, region, lowest, highest))
     },
+    region_of: |s, mask, gpa, which| number(which, &region_of(s, mask, gpa)),
+    region_index: |s, mask, lent, which| number(which, &region_index(s, mask, lent)),
     verdict_numbers: |s, numbers| put(&verdict(s), numbers),
     strict_verdict_numbers: |s, numbers| put(&strict_verdict(s), numbers),
     report_numbers: |s, lent, numbers| put(&report(s, lent), numbers),
@@ -713,6 +773,9 @@ pub const CALLS: Calls = Calls {
     relocation_base_range_numbers: |s, mask, region, lowest, highest, numbers| {
         put(&relocation_base_range(s, mask, region, lowest, highest), numbers)
     },
+    region_of_numbers: |s, mask, gpa, numbers| put(&region_of(s, mask, gpa), numbers),
+    region_index_numbers: |s, mask, lent, numbers| put(&region_index(s, mask, lent), numbers),
     region_base_valid,
     region_contains,
+    region_in,
 };
