@@ -1,11 +1,11 @@
 //! The comparison must catch each wrong copy of paper.rs.
 
 use crate::compare::Difference;
-use crate::region;
+use crate::{owner, region};
 use crate::run::{random_cases, Run, Sort};
 use calls::Calls;
 
-/// Random regions' bytes that a wrong copy is asked of.
+/// Random regions' bytes, and bytes of an index, that a wrong copy is asked of.
 const REGIONS: u64 = 20_000;
 
 /// Random sheets that it is asked of before the short ones, which are more.
@@ -17,10 +17,13 @@ const FAULTY: u64 = 10_000;
 /// Large sheets that it is asked of before the short ones.
 const LARGE: u64 = 20;
 
-/// The first difference, in regions' bytes, random sheets, those of several faulty rows, large ones or the short ones, and where it was found.
+/// The first difference, in regions' bytes, those of an index, random sheets, those of several faulty rows, large ones or the short ones, and where it was found.
 pub fn first_difference(calls: &Calls, seed: u64, cases: u64) -> Option<(String, Difference)> {
     if let (counts, Some(difference)) = region::any_bytes(calls, seed, REGIONS) {
         return Some((format!("region check {}", counts.checks), difference));
+    }
+    if let (lookups, Some(difference)) = owner::any_bytes(calls, seed, REGIONS) {
+        return Some((format!("lookup {}", lookups.made + 1), difference));
     }
     in_random_sheets(calls, Sort::Any, seed, 0, cases.min(FIRST))
         .or_else(|| in_random_sheets(calls, Sort::Faulty, seed, 0, cases.min(FAULTY)))

@@ -1,9 +1,10 @@
 //! One sheet, one call, three answers: of the calls under test, of document 01 in Rust, and, on its domain, of the Rust itself.
-//! To the two verdicts there is a fourth, of plain.rs, to a report that of report.rs, and to a range of bases that of ranges.rs. region.rs has the checks
-//! by a region's words.
+//! To the two verdicts there is a fourth, of plain.rs, to a report that of report.rs, to a range of bases that of ranges.rs, and to the region of an address
+//! that of owner.rs. region.rs has the checks by a region's words.
 
 use crate::alignments::Alignments;
 use crate::bases::Bases;
+use crate::owner::{self, Owners};
 use crate::ranges::{self, Ranges};
 use crate::report::Answered;
 use crate::strict::{self, Strict};
@@ -12,7 +13,7 @@ use calls::Calls;
 use oracle::{Headers, Judged, Relocated};
 use std::fmt::{self, Debug, Formatter};
 
-/// A call but for the sheet and `which`. The last two have neither: a region's words take the sheet's place.
+/// A call but for the sheet and `which`. The last three have neither: a region's words, or those of an index, take the sheet's place.
 #[derive(Clone, Copy, Debug, PartialEq, Eq)]
 pub enum Call {
     Verdict,
@@ -22,8 +23,11 @@ pub enum Call {
     BaseValid { mask: u32, region: u64, base: u64 },
     Contains { mask: u32, region: u64, gpa: u64 },
     BaseRange { mask: u32, region: u64, lowest: u64, highest: u64 },
+    RegionOf { mask: u32, gpa: u64 },
+    RegionIndex { mask: u32, lent: usize },
     RegionBaseValid { base: u64 },
     RegionContains { gpa: u64 },
+    RegionIn { gpa: u64 },
 }
 
 /// How much is asked beside the numbers of an answer, one by one.
@@ -153,7 +157,8 @@ impl Rust {
 
     /// The Rust's answer, where it has one: not for mask 0, a region's number too high, too few words, or a sum of 2^64 or more. Over a range of
     /// bases it is the one that follows from its check of each multiple: not where the lowest is above the highest, or there are more than are tried.
-    /// The strict verdict is its refusal, or what follows from its headers where it accepts them. The report on a sheet is what it says row by row.
+    /// The strict verdict, the region of an address and an index are its refusal, or what follows from its headers where it accepts them. The report on a sheet
+    /// is what it says row by row.
     pub fn answer(&self, sheet: &[u8], call: Call, words: &mut [u8]) -> Result<Option<SaidNumbers>, String> {
         if let Call::Report { .. } = call {
             return Ok(report::by_rust(self, sheet, words)?.map(|numbers| said_of(&numbers)));
@@ -165,6 +170,10 @@ impl Rust {
             Call::Verdict => return Ok(Some(said_of(&judged.numbers))),
             Call::StrictVerdict if judged.file.is_some() => return Ok(Some(said_of(&strict::by_rust(headers, &judged.numbers)))),
             Call::StrictVerdict => return Ok(Some(said_of(&judged.numbers))),
+            Call::RegionOf { mask, .. } | Call::RegionIndex { mask, .. } if judged.file.is_some() => {
+                return if mask == 0 { Ok(None) } else { by_headers(headers, call, words) };
+            }
+            Call::RegionOf { .. } | Call::RegionIndex { .. } => return Ok(Some(said_of(&judged.numbers[..3]))),
             _ if !self.queries => return Ok(None),
             _ => {}
         }
@@ -175,7 +184,6 @@ impl Rust {
             return Ok(None);
         };
         Ok(match call {
-            Call::Verdict | Call::StrictVerdict | Call::Report { .. } | Call::RegionBaseValid { .. } | Call::RegionContains { .. } => None,
             Call::Relocations { .. } => region_list(&found, words),
             Call::BaseValid { region, base, .. } => {
                 let fits = |r: &&oracle::IgvmRelocatableRegion| base.checked_add(r.size).is_some();
@@ -190,8 +198,19 @@ impl Rust {
                 let region = found.regions.get(region as usize).filter(|_| lowest <= highest);
                 region.and_then(|r| ranges::by_rust(r, (lowest, highest))).map(|answer| said_alone(3, Said::Number(answer)))
             }
+            _ => None,
         })
     }
+}
+
+/// The row of an address, or an index, that follows from headers that the Rust accepts. No index does where too few words are lent.
+fn by_headers(headers: &Headers, call: Call, words: &mut [u8]) -> Result<Option<SaidNumbers>, String> {
+    let number = match call {
+        Call::RegionOf { mask, gpa } => Some(owner::by_rust(headers, mask, gpa)?),
+        Call::RegionIndex { mask, .. } => owner::index_by_rust(headers, mask, words),
+        _ => None,
+    };
+    Ok(number.map(|number| said_alone(3, Said::Number(number))))
 }
 
 fn region_list(found: &Relocated, words: &mut [u8]) -> Option<SaidNumbers> {
@@ -207,15 +226,16 @@ fn region_list(found: &Relocated, words: &mut [u8]) -> Option<SaidNumbers> {
 impl Call {
     pub fn mask(self) -> u32 {
         match self {
-            Call::Verdict | Call::StrictVerdict | Call::Report { .. } | Call::RegionBaseValid { .. } | Call::RegionContains { .. } => 0,
+            Call::Verdict | Call::StrictVerdict | Call::Report { .. } => 0,
+            Call::RegionBaseValid { .. } | Call::RegionContains { .. } | Call::RegionIn { .. } => 0,
             Call::Relocations { mask, .. } | Call::BaseValid { mask, .. } | Call::Contains { mask, .. } => mask,
-            Call::BaseRange { mask, .. } => mask,
+            Call::BaseRange { mask, .. } | Call::RegionOf { mask, .. } | Call::RegionIndex { mask, .. } => mask,
         }
     }
 
     fn lent(self) -> usize {
         match self {
-            Call::Relocations { lent, .. } | Call::Report { lent } => lent,
+            Call::Relocations { lent, .. } | Call::Report { lent } | Call::RegionIndex { lent, .. } => lent,
             _ => 0,
         }
     }
@@ -232,7 +252,8 @@ impl Call {
             Call::Report { .. } => 7,
             Call::Relocations { .. } => 10,
             Call::BaseValid { .. } | Call::Contains { .. } | Call::BaseRange { .. } => 4,
-            Call::RegionBaseValid { .. } | Call::RegionContains { .. } => 1,
+            Call::RegionOf { .. } | Call::RegionIndex { .. } => 4,
+            Call::RegionBaseValid { .. } | Call::RegionContains { .. } | Call::RegionIn { .. } => 1,
         }
     }
 
@@ -245,9 +266,9 @@ impl Call {
         }
     }
 
-    /// It is answered by a region's words, without a sheet: there is no `which` and no sibling.
+    /// It is answered by words, of a region or of an index, without a sheet: there is no `which` and no sibling.
     pub fn is_by_words(self) -> bool {
-        matches!(self, Call::RegionBaseValid { .. } | Call::RegionContains { .. })
+        matches!(self, Call::RegionBaseValid { .. } | Call::RegionContains { .. } | Call::RegionIn { .. })
     }
 
     fn by_paper(self, sheet: &[u8], words: &mut [u8]) -> Numbers {
@@ -261,8 +282,11 @@ impl Call {
             Call::BaseRange { mask, region, lowest, highest } => {
                 numbers_of(&paper::relocation_base_range(sheet, mask, region, lowest, highest))
             }
+            Call::RegionOf { mask, gpa } => numbers_of(&paper::region_of(sheet, mask, gpa)),
+            Call::RegionIndex { mask, .. } => numbers_of(&paper::region_index(sheet, mask, words)),
             Call::RegionBaseValid { base } => numbers_of(&[paper::region_base_valid(sheet, base)]),
             Call::RegionContains { gpa } => numbers_of(&[paper::region_contains(sheet, gpa)]),
+            Call::RegionIn { gpa } => numbers_of(&[paper::region_in(sheet, gpa)]),
         }
     }
 
@@ -275,6 +299,8 @@ impl Call {
             Call::BaseRange { mask, region, lowest, highest } => {
                 Some(numbers_of(&ranges::by_plain(sheet, mask, region, (lowest, highest))))
             }
+            Call::RegionOf { mask, gpa } => Some(numbers_of(&owner::by_plain(sheet, mask, gpa))),
+            Call::RegionIndex { mask, .. } => Some(numbers_of(&owner::index_by_plain(sheet, mask, words))),
             _ => None,
         }
     }
@@ -301,8 +327,11 @@ impl Call {
             Call::BaseValid { mask, region, base } => (calls.relocation_base_valid)(sheet, mask, region, base, which),
             Call::Contains { mask, region, gpa } => (calls.contains)(sheet, mask, region, gpa, which),
             Call::BaseRange { mask, region, lowest, highest } => (calls.relocation_base_range)(sheet, mask, region, lowest, highest, which),
+            Call::RegionOf { mask, gpa } => (calls.region_of)(sheet, mask, gpa, which),
+            Call::RegionIndex { mask, .. } => (calls.region_index)(sheet, mask, words, which),
             Call::RegionBaseValid { base } => (calls.region_base_valid)(sheet, base),
             Call::RegionContains { gpa } => (calls.region_contains)(sheet, gpa),
+            Call::RegionIn { gpa } => (calls.region_in)(sheet, gpa),
         }
     }
 
@@ -318,7 +347,11 @@ impl Call {
             Call::BaseRange { mask, region, lowest, highest } => {
                 (calls.relocation_base_range_numbers)(sheet, mask, region, lowest, highest, numbers)
             }
-            Call::RegionBaseValid { .. } | Call::RegionContains { .. } => unreachable!("a check by a region's words has no sibling"),
+            Call::RegionOf { mask, gpa } => (calls.region_of_numbers)(sheet, mask, gpa, numbers),
+            Call::RegionIndex { mask, .. } => (calls.region_index_numbers)(sheet, mask, words, numbers),
+            Call::RegionBaseValid { .. } | Call::RegionContains { .. } | Call::RegionIn { .. } => {
+                unreachable!("a call by words has no sibling")
+            }
         }
     }
 
@@ -354,7 +387,7 @@ pub enum Between {
     Paper,
     /// plain Rust and document 01, or paper.rs's two rules for a range of bases
     Plain,
-    /// the verdict and the strict verdict of the calls, or the verdict and the report, or two reports
+    /// the verdict and the strict verdict of the calls, or the verdict and the report, or two reports, or what is said of an address by the sheet and by an index
     Calls,
 }
 
@@ -369,7 +402,7 @@ pub struct Difference {
 }
 
 /// What a comparison has seen: the refusal's number, how many regions were checked by their words too, the alignments and the answers of those
-/// checked at a base, the ranges of bases, the strict verdicts, and a report.
+/// checked at a base, the ranges of bases, the strict verdicts, the regions of addresses and the indexes, and a report.
 #[derive(Default)]
 pub struct Agreed {
     pub number: u64,
@@ -378,6 +411,7 @@ pub struct Agreed {
     pub bases: Bases,
     pub ranges: Ranges,
     pub strict: Strict,
+    pub owners: Owners,
     pub report: Option<Answered>,
 }
 
@@ -423,6 +457,9 @@ pub fn check(calls: &Calls, sheet: &[u8], rust: &Rust, call: Call, extent: Exten
     }
     match (call, &rust.headers) {
         (Call::StrictVerdict, Some(headers)) => agreed.strict.met(headers, &by_paper),
+        (Call::RegionOf { .. } | Call::RegionIndex { .. }, headers) => {
+            agreed.owners.met(headers.as_ref(), call, &by_paper, by_rust.is_some())
+        }
         (Call::Report { .. }, _) => {
             let numbers = std::array::from_fn(|which| by_paper[which]);
             let words = report::words(lent_part(&mut paper_bytes), by_paper[5] as usize);
@@ -471,7 +508,7 @@ pub enum By {
     Paper,
     Rust,
     /// the Rust says that a base is not valid, document 02 why; or the Rust says which multiples of a range are valid, that it accepts the headers, or
-    /// which error a row meets, document 02 what follows
+    /// which error a row meets, document 02 what follows: the strict verdict, the region of an address and an index from the headers, the report from errors
     RustAnd02,
     /// document 02, and the Rust has no answer
     Only02,
@@ -488,7 +525,9 @@ impl By {
             Call::RegionBaseValid { .. } => numbers[0] > 1,
             Call::BaseRange { .. } => matches!(numbers[0], 0 | 50),
             Call::StrictVerdict => matches!(numbers[0], 0 | 38),
-            Call::Report { .. } => matches!(numbers[0], 0 | 37),
+            Call::Report { .. } | Call::RegionIndex { .. } => matches!(numbers[0], 0 | 37),
+            Call::RegionOf { .. } => numbers[0] == 0,
+            Call::RegionIn { .. } => true,
             _ => false,
         };
         match (has_rust, is_of_02) {
@@ -501,7 +540,7 @@ impl By {
 }
 
 /// The Rust's answer where it has one, which document 01's must agree with, else that of document 01; document 02's is why a base is not valid, the
-/// answer over a range of bases, the strict verdict on what the verdict accepts, and the report.
+/// answer over a range of bases, the strict verdict on what the verdict accepts, the region of an address, an index, and the report.
 pub fn answer(sheet: &[u8], rust: &Rust, call: Call) -> Result<Answer, Difference> {
     let (mut lent, mut rust_lent) = (call.to_lend(), call.to_lend());
     let by_paper = call.by_paper(sheet, &mut lent);

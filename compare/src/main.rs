@@ -13,6 +13,7 @@ mod library;
 mod loader;
 mod memory;
 mod order;
+mod owner;
 mod paper;
 mod places;
 mod plain;
@@ -170,21 +171,22 @@ fn every_refusal(tally: &Tally) -> Result<(), String> {
     Ok(())
 }
 
-/// Random sheets among which every answer for each sort of alignments must be, each combination of what is wrong with a base, each sort of ranges, and
-/// each sort of strict verdicts.
+/// Random sheets among which every answer for each sort of alignments must be, each combination of what is wrong with a base, each sort of ranges,
+/// each sort of strict verdicts, and each of addresses and indexes.
 const ENOUGH: u64 = 100_000;
 
-/// Every answer for each sort of alignments was met, every answer and each combination of faults of a base, every answer and each sort of ranges, and
-/// of strict verdicts each sort and every refusal.
+/// Every answer for each sort of alignments was met, every answer and each combination of faults of a base, every answer and each sort of ranges, of
+/// addresses and of indexes, and of strict verdicts each sort and every refusal.
 fn every_answer(sort: &str, tally: &Tally) -> Result<(), String> {
     let (alignments, bases, ranges) = (tally.alignments.missing(), tally.bases.missing(), tally.ranges.missing());
-    let (strict, refusals) = (tally.strict.missing(), tally.missing_strict());
-    if !alignments.is_empty() || !bases.is_empty() || !ranges.is_empty() || !strict.is_empty() || !refusals.is_empty() {
+    let (strict, owners, refusals) = (tally.strict.missing(), tally.owners.missing(), tally.missing_strict());
+    if !alignments.is_empty() || [&bases, &ranges, &strict, &owners].iter().any(|missing| !missing.is_empty()) || !refusals.is_empty() {
         let missing = format!("of alignments these were not met: {alignments:?}, of bases: {bases:?}, of ranges: {ranges:?}");
+        let missing = format!("{missing}, of addresses and indexes: {owners:?}");
         return Err(format!("{sort} sheets: {missing}, of strict verdicts: {strict:?}, and refusals {refusals:?}"));
     }
     println!("{sort} sheets: every answer for each sort of alignments was met, every answer and combination of faults of a base,");
-    println!("  every answer and sort of a range, and every sort and refusal of a strict verdict");
+    println!("  every answer and sort of a range, of an address and of an index, and every sort and refusal of a strict verdict");
     Ok(())
 }
 
@@ -261,6 +263,11 @@ fn region_bytes(calls: &Calls, o: &Options) -> Result<(), String> {
         return Err(difference_text(calls, &format!("region check {} of seed {}", counts.checks, o.seed), difference));
     }
     println!("region checks on any bytes agree: {}; {:.1?}", counts.seen()?, start.elapsed());
+    let (lookups, found) = owner::any_bytes(calls, o.seed, o.cases);
+    if let Some(difference) = found {
+        return Err(difference_text(calls, &format!("lookup {} of seed {}", lookups.made + 1, o.seed), difference));
+    }
+    println!("lookups in any bytes agree: {}; {:.1?}", lookups.seen()?, start.elapsed());
     Ok(())
 }
 

@@ -4,7 +4,7 @@ use crate::compare::{plain_alike, Call};
 use crate::random::Random;
 use crate::run::on_threads;
 use crate::sheet::{fields_length, hex, Image, Row};
-use crate::{generate, large, plan};
+use crate::{generate, large, owner, plan};
 use calls::Calls;
 use std::collections::BTreeMap;
 
@@ -32,6 +32,10 @@ struct Counts {
     regions: u64,
     bases: u64,
     ranges: u64,
+    addresses: u64,
+    /// of these, those that a region has, and of them those with another row
+    owned: u64,
+    other_owners: u64,
     platform_swaps: u64,
     platform_swaps_differ: u64,
     area_swaps: u64,
@@ -50,6 +54,9 @@ impl Counts {
         self.regions += other.regions;
         self.bases += other.bases;
         self.ranges += other.ranges;
+        self.addresses += other.addresses;
+        self.owned += other.owned;
+        self.other_owners += other.other_owners;
         self.platform_swaps += other.platform_swaps;
         self.platform_swaps_differ += other.platform_swaps_differ;
         self.area_swaps += other.area_swaps;
@@ -73,6 +80,7 @@ pub fn run(calls: &Calls, seed: u64, cases: u64, threads: usize) -> Result<(), S
         "  {} strictly accepted, {} refused by 38, {} of these with another row and {} with another bit in the other order",
         c.strictly_accepted, c.refused_by_38, c.other_rows, c.other_details
     );
+    println!("  {} addresses, {} of them in a region, {} of these with another row in the other order", c.addresses, c.owned, c.other_owners);
     println!("  two platforms of one mask swapped: {} times, the verdict differs {} times", c.platform_swaps, c.platform_swaps_differ);
     println!(
         "  two directives of one area swapped: {} times, the verdict differs {} times; {:.1?}",
@@ -80,8 +88,9 @@ pub fn run(calls: &Calls, seed: u64, cases: u64, threads: usize) -> Result<(), S
         c.area_swaps_differ,
         start.elapsed()
     );
-    let must_be_met = [c.accepted, c.strictly_accepted, c.refused_by_38, c.other_rows, c.platform_swaps_differ, c.area_swaps_differ];
-    if must_be_met.contains(&0) || c.accepted == c.reordered {
+    let must_be_met = [c.accepted, c.strictly_accepted, c.refused_by_38, c.other_rows, c.other_owners];
+    let must_be_met = [&must_be_met[..], &[c.platform_swaps_differ, c.area_swaps_differ]].concat();
+    if must_be_met.contains(&0) || c.accepted == c.reordered || c.owned == c.addresses {
         return Err("order: some of these counts may not be 0, and some sheets must be refused".into());
     }
     Ok(())
@@ -198,6 +207,7 @@ fn same_answers(calls: &Calls, random: &mut Random, r: &Reordered, counts: &mut 
     }
     counts.accepted += 1;
     for mask in masks(random, &r.a) {
+        same_owners(calls, random, r, (&a, &b, mask), counts)?;
         if let Some((words_a, words_b)) = same_list(calls, random, mask, &a, &b)? {
             sound(&r.a, mask, &words_a, calls, &a)?;
             for i in (0..r.a.lists[1].len()).filter(|&i| is_region(&r.a.lists[1][i], mask)) {
@@ -254,6 +264,38 @@ fn same_ranges(calls: &Calls, mask: u32, a: (&[u8], usize), b: (&[u8], usize), r
         }
     }
     Ok(ranges.len() as u64)
+}
+
+/// The row of the second sheet that is paired with an initialization row of the first; 0 with 0.
+fn paired(r: &Reordered, row: u64) -> u64 {
+    let platforms = r.a.lists[0].len() as u64;
+    row.checked_sub(platforms + 1).map_or(0, |at| r.to[1][at as usize] as u64 + platforms + 1)
+}
+
+/// An address is in the paired region, and the indexes have the same starts and sizes, each with the paired row.
+fn same_owners(
+    calls: &Calls,
+    random: &mut Random,
+    r: &Reordered,
+    (a, b, mask): (&[u8], &[u8], u32),
+    counts: &mut Counts,
+) -> Result<(), String> {
+    let [index_a, index_b] = [a, b].map(|sheet| owner::entries(&owner::index(calls, sheet, mask)).collect::<Vec<_>>());
+    let expected: Vec<[u64; 3]> = index_a.iter().map(|&[start, size, row]| [start, size, paired(r, row)]).collect();
+    if index_b != expected {
+        return Err(format!("mask {mask}: the indexes are {index_a:x?} and {index_b:x?}"));
+    }
+    let addresses = plan::region_addresses(a);
+    for gpa in [random.pick(&addresses), random.pick(&addresses), random.pick(&addresses), random.next()] {
+        let [of_a, of_b] = [a, b].map(|sheet| [0, 1, 2, 3].map(|which| number(calls, sheet, Call::RegionOf { mask, gpa }, which)));
+        if of_b != [of_a[0], of_a[1], of_a[2], paired(r, of_a[3])] {
+            return Err(format!("mask {mask}: of address {gpa:#x} the answers are {of_a:?} and {of_b:?}"));
+        }
+        counts.addresses += 1;
+        counts.owned += u64::from(of_a[3] != 0);
+        counts.other_owners += u64::from(of_a[3] != of_b[3]);
+    }
+    Ok(())
 }
 
 fn masks(random: &mut Random, image: &Image) -> Vec<u32> {

@@ -1,6 +1,7 @@
 //! Which queries are made of a sheet: masks, region numbers, bases, addresses, ranges of bases and lent lengths, all of them at boundaries.
 
 use crate::compare::Call;
+use crate::owner::ENTRY;
 use crate::paper;
 use crate::random::Random;
 use crate::sheet::Image;
@@ -64,6 +65,32 @@ pub fn addresses(region: Option<&[u64; 8]>) -> Vec<u64> {
     vec![0, gpa.wrapping_sub(1), gpa, gpa.wrapping_add(1), end.wrapping_sub(1), end, end.wrapping_add(1), u64::MAX]
 }
 
+/// Addresses about the ends of the regions of any mask and of either kind, about that of a page table's used part, and in the middle; 0 and 2^64 - 1.
+pub fn region_addresses(sheet: &[u8]) -> Vec<u64> {
+    let mut all = vec![0, u64::MAX];
+    for row in Image::parse(sheet).iter().flat_map(|image| &image.lists[1]) {
+        if let (18 | 19, Some(gpa), Some(size)) = (row.kind, row.get("gpa"), row.get("size")) {
+            let (end, used) = (gpa.wrapping_add(size), gpa.wrapping_add(row.get("used").unwrap_or(size / 2)));
+            all.extend([gpa.wrapping_sub(1), gpa, used.wrapping_sub(1), used, end.wrapping_sub(1), end]);
+        }
+    }
+    all.sort_unstable();
+    all.dedup();
+    all
+}
+
+/// Lengths that are lent for an index of so many regions.
+fn index_lengths(count: usize) -> [usize; 11] {
+    let all = ENTRY * count;
+    let [byte, word, entry] = [1, 8, ENTRY].map(|fewer| all.saturating_sub(fewer));
+    [0, 7, 8, byte, word, entry, all, all + 1, all + 8, all + 21, all + ENTRY]
+}
+
+/// How many regions of either kind a mask has.
+fn index_count(sheet: &[u8], mask: u32) -> usize {
+    paper::region_index(sheet, mask, &mut [0; 64 * ENTRY])[3] as usize
+}
+
 /// The highest multiple of an alignment below 2^64.
 fn highest_multiple(alignment: u64) -> u64 {
     u64::MAX - u64::MAX.checked_rem(alignment).unwrap_or(0)
@@ -116,6 +143,8 @@ pub fn all(sheet: &[u8]) -> Vec<Call> {
             calls.extend(addresses(words).into_iter().map(|gpa| Call::Contains { mask, region, gpa }));
             calls.extend(ranges(words).into_iter().map(|(lowest, highest)| Call::BaseRange { mask, region, lowest, highest }));
         }
+        calls.extend(region_addresses(sheet).into_iter().map(|gpa| Call::RegionOf { mask, gpa }));
+        calls.extend(index_lengths(index_count(sheet, mask)).map(|lent| Call::RegionIndex { mask, lent }));
     }
     calls
 }
@@ -135,6 +164,13 @@ pub fn some(random: &mut Random, sheet: &[u8]) -> Vec<Call> {
         let (lowest, highest) = some_range(random, words);
         calls.push(Call::BaseRange { mask, region, lowest, highest });
     }
+    let addresses = region_addresses(sheet);
+    for _ in 0..2 {
+        let (mask, any) = (random.pick(&masks), random.next());
+        let gpa = if random.one_in(16) { any } else { random.pick(&addresses) };
+        calls.push(Call::RegionOf { mask, gpa });
+        calls.push(Call::RegionIndex { mask, lent: random.pick(&index_lengths(index_count(sheet, mask))) });
+    }
     calls
 }
 
@@ -146,8 +182,19 @@ fn a_region(random: &mut Random, count: usize) -> u64 {
     random.below(count) as u64
 }
 
-/// One query of a refused sheet: whatever is asked, the answer is the verdict's refusal.
-pub fn one(random: &mut Random) -> Call {
+/// Two queries of a refused sheet, of which one is of an address or for an index: whatever is asked, the answer is the verdict's refusal.
+pub fn two(random: &mut Random) -> Vec<Call> {
+    let query = one(random);
+    let mask = random.pick(&[0, 1, 2, 3, u32::MAX]);
+    let by_address = match random.below(2) {
+        0 => Call::RegionOf { mask, gpa: random.pick(&[0, 0x100000, u64::MAX]) },
+        _ => Call::RegionIndex { mask, lent: random.pick(&[0, 7, 8, 24, 200]) },
+    };
+    vec![query, by_address]
+}
+
+/// One query of another sort.
+fn one(random: &mut Random) -> Call {
     let mask = random.pick(&[0, 1, 2, 3, u32::MAX]);
     match random.below(5) {
         0 | 1 => Call::Relocations { mask, lent: random.pick(&[0, 7, 8, 64, 200]) },

@@ -1,12 +1,13 @@
 //! A sample of answers for a replay without the Rust: `args`, `data/calls-1` and so on, and `stdout` of the program crates/replay. Every answer is
 //! the Rust's, or document 01's where the Rust has none; why a base is not valid, what follows over a range of bases, the strict verdict on what the
-//! verdict accepts, and a report, is document 02's. The library is not asked. Among them are few sheets of more than 1,024 directive rows, made for what
-//! they show.
+//! verdict accepts, which region has an address, an index, and a report, is document 02's. The library is not asked. Among them are few sheets of more than
+//! 1,024 directive rows, made for what they show.
 
 use crate::bases::{Bases, Faults};
 use crate::columns::Columns;
 use crate::compare::{answer, to_lend, Answer, By, Call, Extent, Rust};
 use crate::generate::TOP;
+use crate::owner::{self, Lookups, Owners, ENTRY};
 use crate::random::Random;
 use crate::ranges::{self, Ranges};
 use crate::report::{self, Answered};
@@ -31,6 +32,8 @@ const LEAST: usize = 3;
 const REGIONS: u64 = 8;
 /// Sheets of several faulty rows that reports are taken from.
 const FAULTY: u64 = 20_000;
+/// Random bytes in the place of an index.
+const LOOKUPS: u64 = 400;
 /// How many bytes of a file the replay has room for.
 const FILE: usize = 524_288;
 /// How many bytes the replay can lend.
@@ -51,6 +54,8 @@ pub fn run(seed: u64, folder: &str, check: bool) -> Result<(), String> {
     cases.extend(strict_cases()?);
     cases.extend(report_cases()?);
     cases.extend(sample_of_reports(seed)?);
+    cases.extend(owner_cases()?);
+    cases.extend(lookups(seed)?);
     cases.extend(large_sheets()?);
     catch_wrong_copies(seed, &mut cases)?;
     cases.sort_by_key(|case| (case.number(), case.code()));
@@ -59,6 +64,7 @@ pub fn run(seed: u64, folder: &str, check: bool) -> Result<(), String> {
     every_range(&cases)?;
     every_strict(&cases)?;
     every_report(&cases)?;
+    every_owner(&cases)?;
     let files = files(&cases);
     let lines: String = cases.iter().map(Case::line).collect();
     let by_rust = cases.iter().filter(|case| case.answer.by.is_rust()).count();
@@ -379,6 +385,73 @@ fn sample_of_reports(seed: u64) -> Result<Vec<Case>, String> {
     Ok(cases)
 }
 
+/// Six regions of up to three bits, in no order of address: 1 and 2 over one another, of 3 and 4 the second starts within the first, and a page table
+/// of which a part is used between two others.
+fn owned() -> Image {
+    let region = short::region;
+    let rows = vec![
+        region(4, 0x6000, 0x2000),
+        region(1, 0x2000, 0x3000),
+        region(2, 0x2000, 0x1000),
+        region(3, 0x9000, 0x1_0000_0000),
+        Row::new(19, &[1, 0x5000, 0x2000, 0x1000, 0, 0]),
+        region(6, 0, 0x2000),
+    ];
+    let mut image = with_rows(rows, vec![]);
+    image.lists[1].insert(1, Row::new(16, &[0, 1]));
+    image.lists[0].push(vsm(2));
+    image
+}
+
+/// The region of each address about those of one image, by masks of one bit, of several, of none, and of one that no region has; and the index of each, with
+/// each length about that which it takes. The same of image B, of 64 regions the highest first, and what is refused before 35.
+fn owner_cases() -> Result<Vec<Case>, String> {
+    let mut cases = Vec::new();
+    let mut add = |sheet: &[u8], call: Call| cases.push(Case::new(sheet, &Rust::of(sheet), call));
+    let sheet = owned().bytes();
+    let addresses = plan::region_addresses(&sheet);
+    for (mask, step) in [(1, 1), (2, 3), (3, 5), (4, 3), (6, 5), (8, 20), (0, 20)] {
+        addresses.iter().step_by(step).for_each(|&gpa| add(&sheet, Call::RegionOf { mask, gpa }));
+        let bytes = ENTRY * paper::region_index(&sheet, mask, &mut [0; owner::INDEX])[3] as usize;
+        for lent in [0, bytes.saturating_sub(8), bytes.saturating_sub(1), bytes, bytes + 11] {
+            add(&sheet, Call::RegionIndex { mask, lent });
+        }
+    }
+    let mut high = Image::new(0, [vec![native()], (0..64).rev().map(|n| short::region(1, 0x4000 * n, 0x3000)).collect(), vec![vbs(0, 1, 0)]]);
+    let sheet = high.bytes();
+    [0, 0x2FFF, 0x3000, 0x80000, 0xFC000, 0xFEFFF, 0xFF000].into_iter().for_each(|gpa| add(&sheet, Call::RegionOf { mask: 1, gpa }));
+    [owner::INDEX - 1, owner::INDEX, LENT].into_iter().for_each(|lent| add(&sheet, Call::RegionIndex { mask: 1, lent }));
+    high.lists[2].clear();
+    for sheet in [image_b().bytes(), high.bytes()] {
+        [(0, 0), (1, 0x100000), (1, 0x102000)].into_iter().for_each(|(mask, gpa)| add(&sheet, Call::RegionOf { mask, gpa }));
+        [(0, 0), (1, 0), (1, 24)].into_iter().for_each(|(mask, lent)| add(&sheet, Call::RegionIndex { mask, lent }));
+    }
+    cases.into_iter().collect()
+}
+
+/// Lookups in the indexes of that image, in bytes of other lengths, and in random ones until each sort of lookup is there.
+fn lookups(seed: u64) -> Result<Vec<Case>, String> {
+    let sheet = owned().bytes();
+    let mut cases = Vec::new();
+    for (mask, step) in [(1, 1), (2, 3)] {
+        let index = owner::index(&paper::CALLS, &sheet, mask);
+        let addresses = plan::region_addresses(&sheet).into_iter().step_by(step);
+        cases.extend(addresses.map(|gpa| Case::new(&index, &Rust::of(&[]), Call::RegionIn { gpa })));
+    }
+    let mut sorts = BTreeMap::new();
+    let mut each = |index: &[u8], gpa: u64| {
+        let room = sorts.entry(owner::sort_of_lookup(index, gpa, paper::region_in(index, gpa))).or_insert(1);
+        if *room > 0 {
+            *room -= 1;
+            cases.push(Case::new(index, &Rust::of(&[]), Call::RegionIn { gpa }));
+        }
+        true
+    };
+    [0, 23, 24, 47, 95, 100].into_iter().all(|length| owner::of_length(length, &mut each));
+    (0..LOOKUPS).all(|case| owner::random_bytes(&mut Random::new(seed, case), &mut each));
+    cases.into_iter().collect()
+}
+
 /// The verdict on sheets of many directive rows, the queries of one of them, and the strict verdict on another.
 fn large_sheets() -> Result<Vec<Case>, String> {
     let queries = [
@@ -386,6 +459,8 @@ fn large_sheets() -> Result<Vec<Case>, String> {
         Call::BaseValid { mask: 1, region: 0, base: 0x3000 },
         Call::Contains { mask: 1, region: 0, gpa: 0x1800 },
         Call::BaseRange { mask: 1, region: 0, lowest: 0x1001, highest: 0x3000 },
+        Call::RegionOf { mask: 1, gpa: 0x1FFF },
+        Call::RegionIndex { mask: 1, lent: ENTRY },
     ];
     let mut cases = Vec::new();
     for (image, number) in large::stored() {
@@ -406,9 +481,9 @@ fn large_sheets() -> Result<Vec<Case>, String> {
 }
 
 /// The wrong copies that the sample does not catch: three differ only on sheets of more bytes than it holds, one only where just as many bytes are lent as the
-/// numbers take, which the replay does not do, five only in reports on more rows than the replay has words for, and two only where the words are filled anew for
+/// numbers take, which the replay does not do, five only in reports on more rows than the replay has words for, and four only where the words are filled anew for
 /// each number, which it does not do either.
-const NOT_CAUGHT: [&str; 11] = [
+const NOT_CAUGHT: [&str; 13] = [
     "byte-limit",
     "bytes-16777216",
     "bytes-67108865",
@@ -418,15 +493,21 @@ const NOT_CAUGHT: [&str; 11] = [
     "report-areas-1024",
     "report-faulty-12-bits",
     "report-rows-13-bits",
+    "which-index-once",
+    "which-index-past",
     "which-report-once",
     "which-report-past",
 ];
 
-/// Adds the smallest case for each other wrong copy that the cases do not catch. One of a rule must be caught by another call than the report, which has the rules
+/// The calls whose rules are their own, by what the names of wrong copies of them have, beside those of the verdict and of its queries.
+const OWN_RULES: [&str; 4] = ["report", "owner", "index", "lookup"];
+
+/// Adds the smallest case for each other wrong copy that the cases do not catch. One of another rule must be caught by another call than these, which have the rules
 /// of the verdict: a library may have them twice.
 fn catch_wrong_copies(seed: u64, cases: &mut Vec<Case>) -> Result<(), String> {
     for (name, _, calls) in wrong::WRONG {
-        let catches = |case: &Case| (case.code() != 8 || name.contains("report")) && case.differs(calls);
+        let is_own = OWN_RULES.iter().any(|own| name.contains(own));
+        let catches = |case: &Case| (case.code() < 8 || is_own) && case.differs(calls);
         if NOT_CAUGHT.contains(name) || cases.iter().any(catches) {
             continue;
         }
@@ -517,8 +598,29 @@ fn every_report(cases: &[Case]) -> Result<(), String> {
     Ok(())
 }
 
+/// Every sort of addresses, of indexes and of lookups.
+fn every_owner(cases: &[Case]) -> Result<(), String> {
+    let (mut owners, mut lookups) = (Owners::default(), Lookups::default());
+    for case in cases {
+        let (numbers, has_rust) = (&case.answer.numbers, case.answer.by.is_rust());
+        match case.call {
+            Call::RegionOf { .. } | Call::RegionIndex { .. } => {
+                owners.met(Headers::decode(&case.sheet).as_ref(), case.call, numbers, has_rust)
+            }
+            Call::RegionIn { gpa } => lookups.met(&case.sheet, gpa, numbers[0]),
+            _ => {}
+        }
+    }
+    println!("  addresses and indexes: {}", owners.text());
+    if !owners.missing().is_empty() {
+        return Err(format!("record: of addresses and indexes these are not met: {:?}", owners.missing()));
+    }
+    println!("  lookups: {}", lookups.seen()?);
+    Ok(())
+}
+
 /// Cases of one sort: the call, the refusal's number, the count of regions (6 for more) or the answer of a check, what is wrong with a base, the sort
-/// of a range or of a strict verdict, and whether the sheet is large.
+/// of a range, of a strict verdict, of an address or of an index, and whether the sheet is large.
 type Group = (u8, u64, u64, Option<Faults>, Option<u32>, bool);
 
 #[derive(Default)]
@@ -534,7 +636,7 @@ impl Sample {
     fn offer_sheet(&mut self, random: &mut Random, sheet: &[u8]) -> Result<(), String> {
         let rust = Rust::of(sheet);
         let verdict = Case::new(sheet, &rust, Call::Verdict)?;
-        let queries = if verdict.number() == 0 { plan::some(random, sheet) } else { vec![plan::one(random)] };
+        let queries = if verdict.number() == 0 { plan::some(random, sheet) } else { plan::two(random) };
         self.offer(verdict);
         self.offer(Case::new(sheet, &rust, Call::StrictVerdict)?);
         for call in queries {
@@ -651,21 +753,28 @@ impl Case {
             Call::BaseRange { .. } => 6,
             Call::StrictVerdict => 7,
             Call::Report { .. } => 8,
+            Call::RegionOf { .. } => 9,
+            Call::RegionIndex { .. } => 10,
+            Call::RegionIn { .. } => 11,
         }
     }
 
-    /// The sort of a range of bases, or of a strict verdict.
+    /// The sort of a range of bases, of a strict verdict, of an address or of an index.
     fn sort(&self) -> Option<u32> {
         if let Some((words, range)) = self.range() {
             return Some(ranges::sort(&words, range, self.check()));
         }
-        let headers = Headers::decode(&self.sheet).filter(|_| self.call == Call::StrictVerdict)?;
-        Some(strict::sort(&headers, &self.answer.numbers))
+        let headers = || Headers::decode(&self.sheet);
+        match self.call {
+            Call::StrictVerdict => Some(strict::sort(&headers()?, &self.answer.numbers)),
+            Call::RegionOf { .. } | Call::RegionIndex { .. } => Some(owner::sort(headers().as_ref(), self.call, &self.answer.numbers)),
+            _ => None,
+        }
     }
 
     fn group(&self) -> Group {
         let found = match self.call {
-            Call::Verdict | Call::StrictVerdict => 0,
+            Call::Verdict | Call::StrictVerdict | Call::RegionOf { .. } => 0,
             _ => self.check().min(6),
         };
         let faults = self.base().filter(|_| !self.is_large()).map(|(words, base)| Faults::of(&words, base));
@@ -676,7 +785,7 @@ impl Case {
     /// How many cases are taken of one group.
     fn room(&self) -> usize {
         match (self.is_large(), self.number(), self.call) {
-            (true, _, Call::BaseRange { .. }) => 0,
+            (true, _, Call::BaseRange { .. } | Call::RegionOf { .. } | Call::RegionIndex { .. }) => 0,
             (_, _, Call::StrictVerdict) => usize::from(2 * self.sheet.len() <= SMALL),
             (true, 0 | 31, _) => 2,
             (true, _, _) => 0,
@@ -684,7 +793,7 @@ impl Case {
             (_, 0, Call::Relocations { .. }) => 8,
             (_, _, Call::RegionContains { .. }) => 5,
             (_, 0, Call::BaseValid { .. } | Call::RegionBaseValid { .. }) if self.check() > 1 => 4,
-            (_, 0, Call::BaseRange { .. }) => 1,
+            (_, 0, Call::BaseRange { .. } | Call::RegionOf { .. } | Call::RegionIndex { .. }) => 1,
             (_, 0, _) => 12,
             (_, 35..=37 | 50, _) | (_, _, Call::Verdict) => 6,
             _ => 1,
@@ -697,6 +806,7 @@ impl Case {
             (_, Call::RegionContains { .. }) => 5,
             (0, Call::Contains { .. }) => 12,
             (0, Call::BaseValid { .. } | Call::RegionBaseValid { .. } | Call::BaseRange { .. }) => usize::MAX,
+            (0, Call::RegionOf { .. } | Call::RegionIndex { .. }) => usize::MAX,
             (_, Call::StrictVerdict) => usize::MAX,
             (35..=37 | 50, _) => 6,
             _ if self.answer.numbers[1] == 0 => 4,
@@ -714,15 +824,16 @@ impl Case {
         }
     }
 
-    /// A head of 40 bytes, then the sheet or the region's bytes: call, who answered, two zero bytes, mask u32, region u64, base, gpa or lowest base
+    /// A head of 40 bytes, then the sheet, the region's bytes or those of an index: call, who answered, two zero bytes, mask u32, region u64, base, gpa or lowest base
     /// u64, highest base u64, lent bytes u32, how many bytes follow u32.
     fn bytes(&self) -> Vec<u8> {
         let (region, value, highest, lent) = match self.call {
             Call::Verdict | Call::StrictVerdict => (0, 0, 0, 0),
-            Call::Relocations { lent, .. } | Call::Report { lent } => (0, 0, 0, lent),
+            Call::Relocations { lent, .. } | Call::Report { lent } | Call::RegionIndex { lent, .. } => (0, 0, 0, lent),
             Call::BaseValid { region, base, .. } => (region, base, 0, 0),
             Call::Contains { region, gpa, .. } => (region, gpa, 0, 0),
             Call::RegionBaseValid { base: value } | Call::RegionContains { gpa: value } => (0, value, 0, 0),
+            Call::RegionOf { gpa, .. } | Call::RegionIn { gpa } => (0, gpa, 0, 0),
             Call::BaseRange { region, lowest, highest, .. } => (region, lowest, highest, 0),
         };
         let mut bytes = vec![self.code(), self.answered().0, 0, 0];
@@ -748,6 +859,9 @@ impl Case {
             Call::Contains { mask, region, gpa } => format!("contains mask {mask} region {region} gpa {gpa}"),
             Call::RegionBaseValid { base } => format!("region_base_valid base {base}"),
             Call::RegionContains { gpa } => format!("region_contains gpa {gpa}"),
+            Call::RegionOf { mask, gpa } => format!("region_of mask {mask} gpa {gpa}"),
+            Call::RegionIndex { mask, lent } => format!("region_index mask {mask} lent {lent}"),
+            Call::RegionIn { gpa } => format!("region_in gpa {gpa}"),
             Call::BaseRange { mask, region, lowest, highest } => {
                 format!("relocation_base_range mask {mask} region {region} lowest {lowest} highest {highest}")
             }

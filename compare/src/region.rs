@@ -6,7 +6,7 @@ use crate::bases::Bases;
 use crate::columns::Columns;
 use crate::compare::{Agreed, Between, Call, Difference, Extent, Rust, Said};
 use crate::random::Random;
-use crate::{generate, paper, plan, ranges, short};
+use crate::{generate, owner, paper, plan, ranges, short};
 use calls::Calls;
 use oracle::Relocated;
 
@@ -50,7 +50,7 @@ pub fn by_plain(region: &[u8], base: u64) -> u64 {
     }
 }
 
-/// The answers to a check by words, compared. Gives the answer.
+/// The answers to a check by words, or to a lookup in an index, compared. Gives the answer.
 pub fn check(calls: &Calls, region: &[u8], call: Call) -> Result<u64, Difference> {
     let answer = call.ask(calls, region, &mut [], 0);
     let by_paper = call.ask(&paper::CALLS, region, &mut [], 0);
@@ -61,11 +61,13 @@ pub fn check(calls: &Calls, region: &[u8], call: Call) -> Result<u64, Difference
             return Err(differ(between, format!("the answer is {answer}; {who} says {other:?}")));
         }
     }
-    if let Call::RegionBaseValid { base } = call {
-        let by_plain = by_plain(region, base);
-        if by_plain != by_paper {
-            return Err(differ(Between::Plain, format!("plain Rust says {by_plain}; document 01 says {by_paper}")));
-        }
+    let by_plain = match call {
+        Call::RegionBaseValid { base } => by_plain(region, base),
+        Call::RegionIn { gpa } => owner::by_scan(owner::entries(region), gpa),
+        _ => by_paper,
+    };
+    if by_plain != by_paper {
+        return Err(differ(Between::Plain, format!("plain Rust says {by_plain}; document 01 says {by_paper}")));
     }
     Ok(answer)
 }
@@ -105,7 +107,8 @@ pub fn alike(
             same(calls, sheet, rust, call, &lent[64 * region as usize..][..64], agreed)?;
             agreed.regions += 1;
         }
-        Call::Verdict | Call::StrictVerdict | Call::Report { .. } | Call::RegionBaseValid { .. } | Call::RegionContains { .. } => {}
+        Call::RegionOf { .. } | Call::RegionIndex { .. } => owner::alike(calls, sheet, call, found, extent)?,
+        _ => {}
     }
     Ok(())
 }

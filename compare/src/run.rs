@@ -18,13 +18,13 @@ impl<'a> Run<'a> {
         Run { calls, tally: Tally::default() }
     }
 
-    /// The two verdicts and the report, then queries: one of a refused sheet; of an accepted one some, or all once in 256 times if it is not large.
+    /// The two verdicts and the report, then queries: two of a refused sheet; of an accepted one some, or all once in 256 times if it is not large.
     pub fn sheet(&mut self, random: &mut Random, sheet: &[u8]) -> Result<(), Difference> {
         let rust = Rust::of(sheet);
         let queries = match self.verdict(sheet, &rust, random.next())? {
             0 if random.one_in(256) && !large::is_large(sheet) => plan::all(sheet),
             0 => plan::some(random, sheet),
-            _ => vec![plan::one(random)],
+            _ => plan::two(random),
         };
         self.queries(sheet, &rust, &queries, random.next())
     }
@@ -57,6 +57,7 @@ impl<'a> Run<'a> {
             self.tally.alignments.add(&agreed.alignments);
             self.tally.bases.add(&agreed.bases);
             self.tally.ranges.add(&agreed.ranges);
+            self.tally.owners.add(&agreed.owners);
         }
         Ok(())
     }

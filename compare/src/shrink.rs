@@ -2,7 +2,7 @@
 //! all data at once are left out: each look at it takes long.
 
 use crate::compare::{check, Between, Call, Difference, Extent, Rust};
-use crate::report;
+use crate::{owner, report};
 use crate::sheet::{fields, fields_length, hex, Image};
 use calls::Calls;
 
@@ -36,11 +36,14 @@ fn is_alike(found: &Difference, from: &Difference) -> bool {
     found.between == from.between || is_report && !is_plain(found) && !is_plain(from)
 }
 
-/// The call on a smaller sheet. For a report as many bytes are lent, and fewer by a word for each row that is not there.
+/// The call on a smaller sheet. For a report as many bytes are lent, and fewer by a word for each row that is not there; for an index by an entry.
 fn on_sheet(from: &Difference, sheet: &[u8]) -> Vec<Call> {
     let fewer = report::rows(&from.sheet).saturating_sub(report::rows(sheet));
     match from.call {
         Call::Report { lent } if fewer != 0 => vec![Call::Report { lent: lent.saturating_sub(8 * fewer) }, from.call],
+        Call::RegionIndex { mask, lent } if fewer != 0 => {
+            vec![Call::RegionIndex { mask, lent: lent.saturating_sub(owner::ENTRY * fewer) }, from.call]
+        }
         call => vec![call],
     }
 }
@@ -137,6 +140,16 @@ fn calls_below(call: Call) -> Vec<Call> {
         }
         Call::RegionBaseValid { base } => smaller_values(base).into_iter().map(|base| Call::RegionBaseValid { base }).collect(),
         Call::RegionContains { gpa } => smaller_values(gpa).into_iter().map(|gpa| Call::RegionContains { gpa }).collect(),
+        Call::RegionIn { gpa } => smaller_values(gpa).into_iter().map(|gpa| Call::RegionIn { gpa }).collect(),
+        Call::RegionOf { mask, gpa } => {
+            let masks = smaller_values(u64::from(mask)).into_iter().map(|mask| Call::RegionOf { mask: mask as u32, gpa });
+            masks.chain(smaller_values(gpa).into_iter().map(|gpa| Call::RegionOf { mask, gpa })).collect()
+        }
+        Call::RegionIndex { mask, lent } => {
+            let masks = smaller_values(u64::from(mask)).into_iter().map(|mask| Call::RegionIndex { mask: mask as u32, lent });
+            let less = [0, lent / 2, lent.saturating_sub(owner::ENTRY)].into_iter().filter(|&less| less < lent);
+            masks.chain(less.map(|lent| Call::RegionIndex { mask, lent })).collect()
+        }
         Call::Relocations { mask, lent } => {
             let masks = smaller_values(u64::from(mask)).into_iter().map(|mask| Call::Relocations { mask: mask as u32, lent });
             masks
@@ -169,10 +182,10 @@ fn ranges_below(mask: u32, region: u64, lowest: u64, highest: u64) -> Vec<Call> 
     masks.chain(regions).chain(lower).chain(narrower).collect()
 }
 
-/// The difference as text: what differs, the call, and the sheet or the region's words in hexadecimal digits.
+/// The difference as text: what differs, the call, and the sheet or the words in hexadecimal digits.
 pub fn text(difference: &Difference) -> String {
     let length = difference.sheet.len();
     let digits = hex(&difference.sheet[..length.min(2000)]);
-    let of = if difference.call.is_by_words() { "region" } else { "sheet" };
+    let of = if difference.call.is_by_words() { "words" } else { "sheet" };
     format!("{:?}: {}\n  {of} of {length} bytes: {digits}", difference.call, difference.what)
 }

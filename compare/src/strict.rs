@@ -219,8 +219,7 @@ pub fn by_plain(sheet: &[u8]) -> Result<[u64; 3], Refusal> {
     let [platforms, initializations, directives] = counts.map(|count| count as usize);
     let (table, bodies) = sheet[16..].split_at(8 * (platforms + initializations + directives));
     let entries = &table.as_chunks().0[platforms..];
-    // a platform's body has 16 bytes
-    let bodies = &bodies[16 * platforms..];
+    let bodies = &bodies[PLATFORM * platforms..];
     let is_region_of_several = |(kind, body): (u32, &[u8])| matches!(kind, 18 | 19) && !mask_of(body).is_power_of_two();
     if rows(&entries[..initializations], bodies).any(is_region_of_several) {
         plain_bits(entries, bodies, platforms, initializations)?;
@@ -228,8 +227,11 @@ pub fn by_plain(sheet: &[u8]) -> Result<[u64; 3], Refusal> {
     Ok(counts)
 }
 
+/// The bytes of a platform's body.
+pub const PLATFORM: usize = 16;
+
 /// The kind and the body of each row of these entries of the table, from the front of the bodies on.
-fn rows<'a>(entries: &'a [[u8; 8]], mut bodies: &'a [u8]) -> impl Iterator<Item = (u32, &'a [u8])> {
+pub fn rows<'a>(entries: &'a [[u8; 8]], mut bodies: &'a [u8]) -> impl Iterator<Item = (u32, &'a [u8])> {
     entries.iter().map(move |entry| {
         let entry = u64::from_le_bytes(*entry);
         let (body, behind) = bodies.split_at((entry >> 32) as usize);
@@ -239,7 +241,7 @@ fn rows<'a>(entries: &'a [[u8; 8]], mut bodies: &'a [u8]) -> impl Iterator<Item 
 }
 
 /// The mask of a region or of a VBS context.
-fn mask_of(body: &[u8]) -> u32 {
+pub fn mask_of(body: &[u8]) -> u32 {
     u32::from_le_bytes(*body.first_chunk().unwrap())
 }
 

@@ -3,6 +3,7 @@
 use crate::alignments::Alignments;
 use crate::bases::Bases;
 use crate::columns::Columns;
+use crate::owner::Owners;
 use crate::ranges::Ranges;
 use crate::report::{self, Answered, Reports};
 use crate::strict::Strict;
@@ -51,6 +52,8 @@ pub struct Tally {
     pub ranges: Ranges,
     /// strict verdicts by answer and by sort
     pub strict: Strict,
+    /// regions of addresses, and indexes, by answer and by sort
+    pub owners: Owners,
     /// reports by number: 0, 1 to 7, 37
     pub report_numbers: Histogram,
     /// words of the first faulty row of a sheet
@@ -82,6 +85,7 @@ impl Default for Tally {
             bases: Bases::default(),
             ranges: Ranges::default(),
             strict: Strict::default(),
+            owners: Owners::default(),
             report_numbers: none,
             first_words: none,
             later_words: none,
@@ -101,6 +105,7 @@ impl Tally {
         self.bases.add(&other.bases);
         self.ranges.add(&other.ranges);
         self.strict.add(&other.strict);
+        self.owners.add(&other.owners);
         self.reports.add(&other.reports);
         self.names_other_kind += other.names_other_kind;
         for number in 0..51 {
@@ -186,6 +191,7 @@ impl Tally {
         println!("bases: {}", self.bases.text());
         println!("ranges of bases: {}", self.ranges.text());
         println!("strict verdicts: {}", self.strict.text());
+        println!("addresses and indexes: {}", self.owners.text());
         println!("reports: {}", self.reports.text());
         println!("the Rust named X64VbsVpContext for a row of kind 46: {} times", self.names_other_kind);
     }
