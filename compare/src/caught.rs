@@ -1,8 +1,8 @@
 //! The comparison must catch each wrong copy of paper.rs.
 
 use crate::compare::Difference;
-use crate::{owner, region};
 use crate::run::{random_cases, Run, Sort};
+use crate::{owner, region};
 use calls::Calls;
 
 /// Random regions' bytes, and bytes of an index, that a wrong copy is asked of.

@@ -79,14 +79,7 @@ mod linked {
             numbers: *mut u8,
             numbers_len: usize,
         ) -> u64;
-        fn igvm_region_of_numbers(
-            sheet: *const u8,
-            sheet_len: usize,
-            mask: u32,
-            gpa: u64,
-            numbers: *mut u8,
-            numbers_len: usize,
-        ) -> u64;
+        fn igvm_region_of_numbers(sheet: *const u8, sheet_len: usize, mask: u32, gpa: u64, numbers: *mut u8, numbers_len: usize) -> u64;
         fn igvm_region_index_numbers(
             sheet: *const u8,
             sheet_len: usize,

@@ -80,7 +80,10 @@ pub fn run(calls: &Calls, seed: u64, cases: u64, threads: usize) -> Result<(), S
         "  {} strictly accepted, {} refused by 38, {} of these with another row and {} with another bit in the other order",
         c.strictly_accepted, c.refused_by_38, c.other_rows, c.other_details
     );
-    println!("  {} addresses, {} of them in a region, {} of these with another row in the other order", c.addresses, c.owned, c.other_owners);
+    println!(
+        "  {} addresses, {} of them in a region, {} of these with another row in the other order",
+        c.addresses, c.owned, c.other_owners
+    );
     println!("  two platforms of one mask swapped: {} times, the verdict differs {} times", c.platform_swaps, c.platform_swaps_differ);
     println!(
         "  two directives of one area swapped: {} times, the verdict differs {} times; {:.1?}",

@@ -197,8 +197,9 @@ const COLUMNS: [&str; 38] = [
 const OF_INDEX: usize = 23;
 const REFUSED: usize = 34;
 
-/// The columns that tell addresses and indexes of one sort from others.
-const SORT: [usize; 24] = [0, 1, 2, 3, 4, 5, 6, 7, 8, 9, 10, 11, 12, 13, 14, 15, 16, 23, 24, 25, 26, 27, 28, 29];
+/// The columns that tell addresses and indexes of one sort from others: whose an address is, which region of another mask has it or starts nearer, and in which
+/// order the rows stand.
+const SORT: [usize; 11] = [0, 1, 2, 5, 11, 13, 14, 16, 25, 26, 27];
 
 /// Which columns hold of an address of an accepted image, and of the row that was answered.
 fn of_address(headers: &Headers, (mask, gpa): (u32, u64), row: u64, has_rust: bool) -> [bool; OF_INDEX] {
@@ -371,7 +372,7 @@ fn of_lookup(index: &[u8], gpa: u64, answer: u64) -> [bool; LOOKUPS.len()] {
 }
 
 /// How often each was met, and how many lookups were made.
-#[derive(Default)]
+#[derive(Clone, Copy, Default)]
 pub struct Lookups {
     pub made: u64,
     met: [u64; LOOKUPS.len()],
@@ -403,11 +404,6 @@ impl Columns for Lookups {
     fn counts_mut(&mut self) -> &mut [u64] {
         &mut self.met
     }
-}
-
-/// The sort of a lookup.
-pub fn sort_of_lookup(index: &[u8], gpa: u64, answer: u64) -> u32 {
-    of_lookup(index, gpa, answer).iter().fold(0, |bits, &column| 2 * bits + u32::from(column))
 }
 
 /// Lookups in bytes of each sort, then in so many random ones, up to the first difference.

@@ -3,6 +3,7 @@
 use crate::alignments;
 use crate::compare::Call;
 use crate::generate::{native_context, TOP};
+use crate::plan;
 use crate::sheet::{fields, fields_length, is_open, kinds, list_of, Image, Row};
 
 /// What is done with each sheet; false stops.
@@ -537,7 +538,47 @@ fn limits_of_areas(each: Each) -> bool {
 
 /// Every sheet that is asked of with the queries given.
 pub fn every_query(each: &mut dyn FnMut(&[u8], &[Call]) -> bool) -> bool {
-    every_base(each) && every_alignment(each) && every_range(each) && ranges_by_alignment(each)
+    every_base(each) && every_alignment(each) && every_range(each) && ranges_by_alignment(each) && every_owner(each) && high_owners(each)
+}
+
+/// Every address at the first and the last byte of a page, and every length about that of an index, by every mask of two bits.
+fn owner_queries() -> Vec<Call> {
+    let addresses = (0..9).flat_map(|page: u64| [(0x1000 * page).wrapping_sub(1), 0x1000 * page]).chain([0x800, 0x3FFE, 0x4001]);
+    let addresses: Vec<u64> = addresses.collect();
+    let lengths = [0, 7, 8, 16, 23, 24, 25, 31, 32, 40, 47, 48, 49, 55, 56, 72];
+    let of_mask = |mask: u32| {
+        let by_address = addresses.iter().map(move |&gpa| Call::RegionOf { mask, gpa });
+        by_address.chain(lengths.map(|lent| Call::RegionIndex { mask, lent })).collect::<Vec<_>>()
+    };
+    (0..4).chain([4]).flat_map(of_mask).collect()
+}
+
+/// Two regions of either kind and any masks of two bits, of up to three pages, the second before, at, in and behind the first; of a page table a page is used.
+fn every_owner(each: &mut dyn FnMut(&[u8], &[Call]) -> bool) -> bool {
+    let (kinds, masks): (&[u64], &[u64]) = (&[18, 19], &[1, 2, 3]);
+    let queries = owner_queries();
+    product(&[kinds, kinds, masks, masks, &[1, 2, 3], &[0, 1, 2, 3, 4, 5, 6], &[1, 2]], &mut |v| {
+        let [mut first, mut second] = [region_of(v[0], v[2], 0x3000, 0x1000 * v[4]), region_of(v[1], v[3], 0x1000 * v[5], 0x1000 * v[6])];
+        [&mut first, &mut second].into_iter().for_each(|row| row.set("used", 0x1000));
+        each(&Image::new(0, [vec![native(), vsm(2)], vec![first, second], vec![vbs(0, 3, 0)]]).bytes(), &queries)
+    })
+}
+
+/// A region of either kind that is large or stands at the highest addresses, and above or below it one of a page.
+fn high_owners(each: &mut dyn FnMut(&[u8], &[Call]) -> bool) -> bool {
+    let places = [(0, TOP), (0x1000, TOP - 0x2000), (1 << 40, 1 << 62), (1 << 63, 1 << 62), (TOP - 0x1000, 0x1000), (0xFFFF_F000, 0x2000)];
+    places.into_iter().all(|(gpa, size)| {
+        [18, 19].into_iter().all(|kind| {
+            [gpa.wrapping_sub(0x1000), gpa + size, gpa].into_iter().all(|other| {
+                let sheet =
+                    Image::new(0, [vec![native()], vec![region_of(kind, 1, gpa, size), region(3, other, 0x1000)], vec![vbs(0, 3, 0)]]);
+                let sheet = sheet.bytes();
+                let of_mask = |mask: u32| plan::region_addresses(&sheet).into_iter().map(move |gpa| Call::RegionOf { mask, gpa });
+                let lists = [1, 2].map(|mask| Call::RegionIndex { mask, lent: 48 });
+                each(&sheet, &[of_mask(1).collect(), of_mask(2).collect(), lists.to_vec()].concat())
+            })
+        })
+    })
 }
 
 /// Every alignment about a power of two: each of gpa, minimum and maximum at every address about its multiples, the others at a multiple; and every such base.

@@ -2,8 +2,8 @@
 //! all data at once are left out: each look at it takes long.
 
 use crate::compare::{check, Between, Call, Difference, Extent, Rust};
-use crate::{owner, report};
 use crate::sheet::{fields, fields_length, hex, Image};
+use crate::{owner, report};
 use calls::Calls;
 
 /// The difference on the smallest sheet and the simplest call that were found.
