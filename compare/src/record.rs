@@ -7,7 +7,7 @@ use crate::bases::{Bases, Faults};
 use crate::columns::Columns;
 use crate::compare::{answer, to_lend, Answer, By, Call, Extent, Rust};
 use crate::generate::TOP;
-use crate::owner::{self, Lookups, Owners, ENTRY};
+use crate::owner::{self, Lookups, Owners};
 use crate::random::Random;
 use crate::ranges::{self, Ranges};
 use crate::report::{self, Answered};
@@ -410,14 +410,17 @@ fn owner_cases() -> Result<Vec<Case>, String> {
     let mut add = |sheet: &[u8], call: Call| cases.push(Case::new(sheet, &Rust::of(sheet), call));
     let sheet = owned().bytes();
     let addresses = plan::region_addresses(&sheet);
-    for (mask, step) in [(1, 1), (2, 3), (3, 5), (4, 3), (6, 5), (8, 20), (0, 20)] {
+    for (mask, step) in [(1, 1), (2, 3), (3, 7), (4, 5), (6, 7), (8, 20), (0, 20)] {
         addresses.iter().step_by(step).for_each(|&gpa| add(&sheet, Call::RegionOf { mask, gpa }));
-        let bytes = ENTRY * paper::region_index(&sheet, mask, &mut [0; owner::INDEX])[3] as usize;
-        for lent in [0, bytes.saturating_sub(8), bytes.saturating_sub(1), bytes, bytes + 11] {
-            add(&sheet, Call::RegionIndex { mask, lent });
+        let bytes = owner::index(&paper::CALLS, &sheet, mask).len();
+        let mut lengths = vec![0, bytes, bytes + 11];
+        if mask < 3 {
+            lengths.extend([bytes.saturating_sub(8), bytes.saturating_sub(1)]);
         }
+        lengths.into_iter().for_each(|lent| add(&sheet, Call::RegionIndex { mask, lent }));
     }
-    let mut high = Image::new(0, [vec![native()], (0..64).rev().map(|n| short::region(1, 0x4000 * n, 0x3000)).collect(), vec![vbs(0, 1, 0)]]);
+    let mut high =
+        Image::new(0, [vec![native()], (0..64).rev().map(|n| short::region(1, 0x4000 * n, 0x3000)).collect(), vec![vbs(0, 1, 0)]]);
     let sheet = high.bytes();
     [0, 0x2FFF, 0x3000, 0x80000, 0xFC000, 0xFEFFF, 0xFF000].into_iter().for_each(|gpa| add(&sheet, Call::RegionOf { mask: 1, gpa }));
     [owner::INDEX - 1, owner::INDEX, LENT].into_iter().for_each(|lent| add(&sheet, Call::RegionIndex { mask: 1, lent }));
@@ -429,26 +432,23 @@ fn owner_cases() -> Result<Vec<Case>, String> {
     cases.into_iter().collect()
 }
 
-/// Lookups in the indexes of that image, in bytes of other lengths, and in random ones until each sort of lookup is there.
+/// Lookups in the index of that image, in bytes of other lengths, and in random ones until each sort of lookup is there three times.
 fn lookups(seed: u64) -> Result<Vec<Case>, String> {
     let sheet = owned().bytes();
-    let mut cases = Vec::new();
-    for (mask, step) in [(1, 1), (2, 3)] {
-        let index = owner::index(&paper::CALLS, &sheet, mask);
-        let addresses = plan::region_addresses(&sheet).into_iter().step_by(step);
-        cases.extend(addresses.map(|gpa| Case::new(&index, &Rust::of(&[]), Call::RegionIn { gpa })));
-    }
-    let mut sorts = BTreeMap::new();
-    let mut each = |index: &[u8], gpa: u64| {
-        let room = sorts.entry(owner::sort_of_lookup(index, gpa, paper::region_in(index, gpa))).or_insert(1);
-        if *room > 0 {
-            *room -= 1;
+    let index = owner::index(&paper::CALLS, &sheet, 1);
+    let (mut cases, mut met) = (Vec::new(), Lookups::default());
+    let mut each = |index: &[u8], gpa: u64, always: bool| {
+        let mut with = met;
+        with.met(index, gpa, paper::region_in(index, gpa));
+        if always || with.counts().iter().zip(met.counts()).any(|(with, met)| met < with && *with <= 3) {
+            met = with;
             cases.push(Case::new(index, &Rust::of(&[]), Call::RegionIn { gpa }));
         }
         true
     };
-    [0, 23, 24, 47, 95, 100].into_iter().all(|length| owner::of_length(length, &mut each));
-    (0..LOOKUPS).all(|case| owner::random_bytes(&mut Random::new(seed, case), &mut each));
+    plan::region_addresses(&sheet).into_iter().all(|gpa| each(&index, gpa, true));
+    [0, 23, 24, 47, 95, 100].into_iter().all(|length| owner::of_length(length, &mut |index, gpa| each(index, gpa, false)));
+    (0..LOOKUPS).all(|case| owner::random_bytes(&mut Random::new(seed, case), &mut |index, gpa| each(index, gpa, false)));
     cases.into_iter().collect()
 }
 
@@ -460,7 +460,6 @@ fn large_sheets() -> Result<Vec<Case>, String> {
         Call::Contains { mask: 1, region: 0, gpa: 0x1800 },
         Call::BaseRange { mask: 1, region: 0, lowest: 0x1001, highest: 0x3000 },
         Call::RegionOf { mask: 1, gpa: 0x1FFF },
-        Call::RegionIndex { mask: 1, lent: ENTRY },
     ];
     let mut cases = Vec::new();
     for (image, number) in large::stored() {
@@ -786,6 +785,7 @@ impl Case {
     fn room(&self) -> usize {
         match (self.is_large(), self.number(), self.call) {
             (true, _, Call::BaseRange { .. } | Call::RegionOf { .. } | Call::RegionIndex { .. }) => 0,
+            (_, 35 | 37, Call::RegionOf { .. } | Call::RegionIndex { .. }) => 2,
             (_, _, Call::StrictVerdict) => usize::from(2 * self.sheet.len() <= SMALL),
             (true, 0 | 31, _) => 2,
             (true, _, _) => 0,
