@@ -16,6 +16,9 @@ fn ask(c: Call, sheet: &[u8], lent: &mut [u8], which: u32) -> u64 {
         6 => igvm::igvm_relocation_base_range(sheet, c.mask, c.region, c.value, c.highest, which),
         7 => igvm::igvm_strict_verdict(sheet, which),
         8 => igvm::igvm_report(sheet, lent, which),
+        9 => igvm::igvm_region_of(sheet, c.mask, c.value, which),
+        10 => igvm::igvm_region_index(sheet, c.mask, lent, which),
+        11 => igvm::igvm_region_in(sheet, c.value),
         _ => igvm::igvm_contains(sheet, c.mask, c.region, c.value, which),
     }
 }
@@ -38,6 +41,8 @@ fn ask_all(c: Call, sheet: &[u8], words: &mut [u8], numbers: &mut [u8]) -> u64 {
         ),
         7 => igvm::igvm_strict_verdict_numbers(sheet, numbers),
         8 => igvm::igvm_report_numbers(sheet, words, numbers),
+        9 => igvm::igvm_region_of_numbers(sheet, c.mask, c.value, numbers),
+        10 => igvm::igvm_region_index_numbers(sheet, c.mask, words, numbers),
         _ => igvm::igvm_contains_numbers(sheet, c.mask, c.region, c.value, numbers),
     }
 }

@@ -1,5 +1,5 @@
 // Calls that a file stores, one record after another: a record is read, and its line written up to the numbers of the answer. A record is a head of 40 bytes and a sheet
-// (codes 4 and 5: a region's bytes).
+// (codes 4 and 5: a region's bytes, code 11: those of an index).
 ghost use mathlib.Core.Path.{_≡_};
 ghost use Prim.Native.Nat.{ℕ, _+_, _*_, _%_, _<_, _≤_};
 ghost use lib.ListN.{length, getD};
@@ -8,7 +8,8 @@ use libc::STDOUT_FILENO;
 
 // The head of a record.
 pub struct Call {
-    // 0 verdict, 1 relocations, 2 relocation_base_valid, 4 region_base_valid, 5 region_contains, 6 relocation_base_range, 7 strict_verdict, 8 report, else contains
+    // 0 verdict, 1 relocations, 2 relocation_base_valid, 4 region_base_valid, 5 region_contains, 6 relocation_base_range, 7 strict_verdict, 8 report, 9 region_of,
+    // 10 region_index, 11 region_in, else contains
     pub code: u8,
     // 0 document 01, 1 the Rust, 2 the Rust and document 02, else document 02
     pub answered: u8,
@@ -80,6 +81,15 @@ fn write_call(c: Call) {
         }
         7 => write(b"strict_verdict"),
         8 => write_number(b"report lent ", c.lent as u64),
+        9 => {
+            write_number(b"region_of mask ", c.mask as u64);
+            write_number(b" gpa ", c.value);
+        }
+        10 => {
+            write_number(b"region_index mask ", c.mask as u64);
+            write_number(b" lent ", c.lent as u64);
+        }
+        11 => write_number(b"region_in gpa ", c.value),
         _ => write_region(b"contains", c, b" gpa "),
     }
 }
@@ -100,7 +110,7 @@ fn numbers(code: u8) -> u32
     match code {
         0 | 7 => 7,
         1 => 11,
-        4 | 5 => 1,
+        4 | 5 | 11 => 1,
         8 => 8,
         _ => 5,
     }
