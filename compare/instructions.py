@@ -3,7 +3,7 @@
 
     instructions.py PROGRAM [CASE..]     PROGRAM is compare as `run speed` builds it; without CASE all are counted
 
-A ratio is the library's to the number of instructions before it. Of a case of bases a call is the check of one base. With KEEP=FOLDER in the
+A ratio is the library's to the number of instructions before it. Of a case of bases a call is the check of one base, of one of lookups one lookup. With KEEP=FOLDER in the
 environment the profiles stay there, for callgrind_annotate.
 """
 
@@ -15,8 +15,8 @@ import tempfile
 from pathlib import Path
 
 CALLS = 5
-# A case of bases checks so many at a time (src/speed.rs).
-BASES = 64
+# A case of bases checks so many at a time, and one of lookups looks up so many addresses (src/speed.rs).
+AT_A_TIME = {"base-": 64, "region-in-": 4096}
 
 
 def said(*command):
@@ -48,7 +48,7 @@ def counts(program, case, side, folder, addresses):
     valgrind = ["valgrind", "--tool=callgrind", f"--callgrind-out-file={profile}", "--collect-atstart=no", "--toggle-collect=*speed::measured*"]
     profile_of = ["--dump-instr=yes", "--compress-pos=no", "--compress-strings=no"]
     run = said(*valgrind, *profile_of, program, "speed", "--only", case, "--side", side, "--rounds", str(CALLS))
-    calls = CALLS * (BASES if case.startswith("base-") else 1)
+    calls = CALLS * next((times for name, times in AT_A_TIME.items() if case.startswith(name)), 1)
     return int(re.search(r"Collected : (\d+)", run.stderr)[1]) // calls, executed(profile, program, addresses) // calls
 
 

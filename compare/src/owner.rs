@@ -535,8 +535,8 @@ pub fn by_scan(regions: impl IntoIterator<Item = [u64; 3]>, gpa: u64) -> u64 {
     reached.find(|[start, size, _]| gpa - start < *size).map_or(0, |[_, _, row]| row)
 }
 
-/// The same by halves: the last region that starts at or below the address may have it.
-pub fn by_halves(regions: &[[u64; 3]], gpa: u64) -> u64 {
+/// The same by binary search: the last region that starts at or below the address may have it.
+pub fn by_search(regions: &[[u64; 3]], gpa: u64) -> u64 {
     let behind = regions.partition_point(|[start, ..]| *start <= gpa);
     by_scan(behind.checked_sub(1).map(|last| regions[last]), gpa)
 }

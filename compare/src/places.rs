@@ -35,6 +35,12 @@ struct Placed {
     strict_verdict: Option<unsafe extern "C" fn(*const u8, usize, u32) -> u64>,
     /// nor this
     report: Option<unsafe extern "C" fn(*const u8, usize, *mut u8, usize, u32) -> u64>,
+    /// nor this
+    region_of: Option<unsafe extern "C" fn(*const u8, usize, u32, u64, u32) -> u64>,
+    /// nor this
+    region_index: Option<unsafe extern "C" fn(*const u8, usize, u32, *mut u8, usize, u32) -> u64>,
+    /// nor this
+    region_in: Option<unsafe extern "C" fn(*const u8, usize, u64) -> u64>,
 }
 
 impl Placed {
@@ -59,6 +65,9 @@ impl Placed {
             let relocation_base_range = dlsym(handle, c"igvm_relocation_base_range".as_ptr());
             let strict_verdict = dlsym(handle, c"igvm_strict_verdict".as_ptr());
             let report = dlsym(handle, c"igvm_report".as_ptr());
+            let region_of = dlsym(handle, c"igvm_region_of".as_ptr());
+            let region_index = dlsym(handle, c"igvm_region_index".as_ptr());
+            let region_in = dlsym(handle, c"igvm_region_in".as_ptr());
             Ok(Placed {
                 verdict: std::mem::transmute(verdict),
                 relocations: std::mem::transmute(relocations),
@@ -68,6 +77,9 @@ impl Placed {
                 relocation_base_range: std::mem::transmute(relocation_base_range),
                 strict_verdict: std::mem::transmute(strict_verdict),
                 report: std::mem::transmute(report),
+                region_of: std::mem::transmute(region_of),
+                region_index: std::mem::transmute(region_index),
+                region_in: std::mem::transmute(region_in),
             })
         }
     }
@@ -80,6 +92,9 @@ impl Placed {
             Question::Range => self.relocation_base_range.is_some(),
             Question::Strict(_) => self.strict_verdict.is_some(),
             Question::Report(_) => self.report.is_some(),
+            Question::Owner => self.region_of.is_some(),
+            Question::Index => self.region_index.is_some(),
+            Question::Lookups => self.region_in.is_some(),
             Question::Loader => false,
             Question::Accepted | Question::Refused(_) | Question::Relocations | Question::Check => true,
         }
@@ -95,13 +110,17 @@ impl Placed {
             Question::Range => unsafe { self.relocation_base_range.expect("the call")(sheet.as_ptr(), sheet.len(), 1, region, 1, base, 3) },
             Question::Strict(_) => unsafe { self.strict_verdict.expect("the call")(sheet.as_ptr(), sheet.len(), 0) },
             Question::Report(_) => unsafe { self.report.expect("the call")(sheet.as_ptr(), sheet.len(), lent.as_mut_ptr(), lent.len(), 6) },
+            Question::Owner => unsafe { self.region_of.expect("the call")(sheet.as_ptr(), sheet.len(), 1, case.highest_address(), 3) },
+            Question::Index => unsafe {
+                self.region_index.expect("the call")(sheet.as_ptr(), sheet.len(), 1, lent.as_mut_ptr(), lent.len(), 3)
+            },
             _ => unsafe { (self.verdict)(sheet.as_ptr(), sheet.len(), 0) },
         }
     }
 
     /// It answers as the case says. A build of other limits may refuse the image.
     fn answers(&self, case: &Case) -> bool {
-        case.has_bases() || self.ask(case, &mut case.to_lend()) == case.answer
+        case.is_by_words() || self.ask(case, &mut case.to_lend()) == case.answer
     }
 
     /// Nanoseconds of a call, after one that is not measured.
@@ -109,6 +128,10 @@ impl Placed {
         if let Some(check) = self.region_base_valid.filter(|_| case.has_bases()) {
             let took = case.check_bases(|region, base| unsafe { check(region.as_ptr(), region.len(), base) }, times);
             return case.nanoseconds(took, times);
+        }
+        if let Some(look_up) = self.region_in.filter(|_| case.is_by_words()) {
+            let index = black_box(&case.index[..]);
+            return case.nanoseconds(case.look_up(|gpa| unsafe { look_up(index.as_ptr(), index.len(), gpa) }, times), times);
         }
         let mut lent = case.to_lend();
         self.ask(case, &mut lent);

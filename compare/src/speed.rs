@@ -2,10 +2,11 @@
 
 use crate::generate::TOP;
 use crate::memory::Sheet;
+use crate::random::Random;
 use crate::region::{by_plain, words};
 use crate::sheet::{Image, Row};
 use crate::short::{native, page_table, region, vbs};
-use crate::{loader, paper, plain, ranges, report, strict};
+use crate::{loader, owner, paper, plain, ranges, report, strict};
 use calls::Calls;
 use oracle::{Headers, IgvmFile, Relocated};
 use std::hint::black_box;
@@ -53,14 +54,24 @@ pub enum Side {
     Verdict,
     /// the library's check of a base by the same sheet
     Base,
+    /// plain Rust by binary search, on regions that stand ready
+    Search,
 }
-use Side::{Alone, Base, Bytes, Library, Plain, Ready, Verdict};
+use Side::{Alone, Base, Bytes, Library, Plain, Ready, Search, Verdict};
 
-const SIDES: [(&str, Side); 7] =
-    [("library", Library), ("plain", Plain), ("rust", Ready), ("bytes", Bytes), ("alone", Alone), ("verdict", Verdict), ("base", Base)];
+const SIDES: [(&str, Side); 8] = [
+    ("library", Library),
+    ("plain", Plain),
+    ("rust", Ready),
+    ("bytes", Bytes),
+    ("alone", Alone),
+    ("verdict", Verdict),
+    ("base", Base),
+    ("search", Search),
+];
 
 /// The columns of a line behind the case's name.
-const COLUMNS: [&str; 16] = [
+const COLUMNS: [&str; 18] = [
     "rows",
     "bytes",
     "library",
@@ -76,6 +87,8 @@ const COLUMNS: [&str; 16] = [
     "verdict",
     "ratio",
     "base",
+    "ratio",
+    "search",
     "ratio",
 ];
 
@@ -102,11 +115,20 @@ pub enum Question {
     Strict(u64),
     /// the report, where the verdict accepts, or refuses with this number
     Report(u64),
+    /// the region by the sheet of the highest address that one of mask 1 has
+    Owner,
+    /// the index of mask 1
+    Index,
+    /// lookups in that index, of addresses all over
+    Lookups,
 }
-use Question::{Accepted, Bases, Check, Loader, Numbers, Range, Refused, Relocations, Report, Strict};
+use Question::{Accepted, Bases, Check, Index, Loader, Lookups, Numbers, Owner, Range, Refused, Relocations, Report, Strict};
 
 /// How many bases are checked at a time, since a check is as short as what it takes to measure one.
 const BASES: u64 = 64;
+
+/// How many addresses are looked up at a time: more than the processor can learn the answers of.
+const ADDRESSES: u64 = 4096;
 
 /// An image, and what is asked of it.
 pub struct Case {
@@ -118,7 +140,13 @@ pub struct Case {
     pub question: Question,
     /// the number of the last region of mask 1, and the highest base of it that is valid
     pub last: (u64, u64),
-    /// what the call returns
+    /// the index of mask 1
+    pub index: Vec<u8>,
+    /// the same as numbers
+    regions: Vec<[u64; 3]>,
+    /// addresses that are looked up in it, of regions and of none, in no order
+    addresses: Vec<u64>,
+    /// what `by_paper` gives
     pub answer: u64,
 }
 
@@ -176,14 +204,35 @@ impl Case {
         let [_, size, alignment, _, maximum, ..] = words(&region(last)).expect("a region's bytes");
         let top = maximum.saturating_sub(size);
         let last = (last as u64, top - top.checked_rem(alignment).unwrap_or(0));
-        let answer = match question {
+        let index = owner::index(&paper::CALLS, &sheet, 1);
+        let regions: Vec<[u64; 3]> = owner::entries(&index).collect();
+        let mut case = Case { name, sheet, headers, region: region(0), question, last, index, regions, addresses: vec![], answer: 0 };
+        if question == Lookups {
+            let (mut random, end) = (Random::new(9, 1), case.highest_address() + 0x2000);
+            case.addresses = (0..ADDRESSES).map(|_| random.next() % end).collect();
+        }
+        case.answer = case.by_paper();
+        case
+    }
+
+    /// What the call returns, by document 01, or the sum of what all lookups do.
+    fn by_paper(&self) -> u64 {
+        let sheet = &self.sheet[..];
+        match self.question {
             Refused(number) | Strict(number) => number,
-            Check => paper::relocation_base_valid(&sheet, 1, last.0, last.1)[3],
-            Range => paper::relocation_base_range(&sheet, 1, last.0, 1, last.1)[3],
-            Report(_) => paper::report(&sheet, &mut vec![0; 8 * report::rows(&sheet)])[6],
+            Check => paper::relocation_base_valid(sheet, 1, self.last.0, self.last.1)[3],
+            Range => paper::relocation_base_range(sheet, 1, self.last.0, 1, self.last.1)[3],
+            Report(_) => paper::report(sheet, &mut vec![0; 8 * report::rows(sheet)])[6],
+            Owner => paper::region_of(sheet, 1, self.highest_address())[3],
+            Index => self.regions.len() as u64,
+            Lookups => self.sum_of_rows(|gpa| paper::region_of(sheet, 1, gpa)[3]),
             Accepted | Numbers | Relocations | Loader | Bases(_) => 0,
-        };
-        Case { name, sheet, headers, region: region(0), question, last, answer }
+        }
+    }
+
+    /// The highest address that a region of mask 1 has.
+    pub fn highest_address(&self) -> u64 {
+        self.regions.last().map_or(0, |[start, size, _]| start + size - 1)
     }
 
     /// Document 01 and the Rust accept the image, or refuse it, as the question says; and the strict verdict does. Of a report's rows none is faulty, or half of those
@@ -207,23 +256,40 @@ impl Case {
         }
     }
 
-    /// How many calls are measured at a time, or how often all bases are checked.
+    /// How many calls are measured at a time, or how often all bases are checked or all addresses looked up.
     pub fn times(&self) -> usize {
+        if self.question == Lookups {
+            return 1;
+        }
         (2048 / self.headers.kinds.len()).clamp(1, 64)
     }
 
-    /// Nanoseconds of a call, or of the check of one base, where so many took this long.
+    /// Nanoseconds of a call, of the check of one base or of one lookup, where so many took this long.
     pub fn nanoseconds(&self, took: Duration, times: usize) -> f64 {
-        took.as_nanos() as f64 / times as f64 / if self.has_bases() { BASES as f64 } else { 1.0 }
+        took.as_nanos() as f64 / times as f64 / self.at_a_time() as f64
+    }
+
+    /// How many calls are measured as one.
+    fn at_a_time(&self) -> u64 {
+        match self.question {
+            Bases(_) => BASES,
+            Lookups => ADDRESSES,
+            _ => 1,
+        }
     }
 
     /// The digits of nanoseconds behind the point.
     pub fn digits(&self) -> usize {
-        if self.has_bases() {
+        if self.is_by_words() {
             2
         } else {
             0
         }
+    }
+
+    /// It is asked of words and not of a sheet.
+    pub fn is_by_words(&self) -> bool {
+        self.at_a_time() > 1
     }
 
     pub fn has_bases(&self) -> bool {
@@ -234,8 +300,24 @@ impl Case {
     pub fn number(&self) -> u64 {
         match self.question {
             Refused(number) | Report(number) => number,
-            Accepted | Numbers | Relocations | Loader | Bases(_) | Check | Range | Strict(_) => 0,
+            _ => 0,
         }
+    }
+
+    /// The rows of all addresses by this lookup, summed up. A lookup begins when the one before it has answered, as a check of a base does.
+    fn sum_of_rows(&self, lookup: impl Fn(u64) -> u64) -> u64 {
+        let none = black_box(0);
+        let one_more = |(sum, row): (u64, u64), gpa: &u64| {
+            let row = lookup(gpa + (row & none));
+            (sum + row, row)
+        };
+        self.addresses.iter().fold((0, 0), one_more).0
+    }
+
+    /// All lookups, so many times, after once that is not measured.
+    pub fn look_up(&self, lookup: impl Fn(u64) -> u64, times: usize) -> Duration {
+        assert_eq!(self.sum_of_rows(&lookup), self.answer, "{}: rows", self.name);
+        time(vec![(); times], |()| assert_eq!(self.sum_of_rows(&lookup), self.answer))
     }
 
     /// How many of the bases are valid by this check, which answers 1 for them. A check begins when the one before it has answered: else the processor divides
@@ -251,16 +333,18 @@ impl Case {
     }
 
     /// `relocations` alone and the verdict for one number are no sides of that verdict, plain Rust has no region list, a loader starts from
-    /// headers, and bases are checked by a region's words. The Rust has no check of a range, no strict verdict and no report, and beside a range stands the check
-    /// of a base. Beside the report on an image with faulty rows the verdict, which ends at the first of them, does not stand.
+    /// headers, and bases are checked by a region's words. The Rust has no check of a range, no strict verdict, no report and no region of an address, and beside a
+    /// range stands the check of a base. Beside the report on an image with faulty rows the verdict, which ends at the first of them, does not stand.
     pub fn has(&self, side: Side) -> bool {
+        let is_of_rust = !matches!(self.question, Range | Strict(_) | Report(_) | Owner | Index | Lookups);
         match side {
             Alone => self.question == Relocations,
-            Verdict => matches!(self.question, Numbers | Relocations | Check | Range | Strict(_) | Report(0)),
+            Verdict => matches!(self.question, Numbers | Relocations | Check | Range | Strict(_) | Report(0) | Owner | Index),
             Base => self.question == Range,
+            Search => self.question == Lookups,
             Plain => !matches!(self.question, Relocations | Loader | Check),
-            Bytes => !matches!(self.question, Loader | Bases(_) | Range | Strict(_) | Report(_)),
-            Ready => !matches!(self.question, Range | Strict(_) | Report(_)),
+            Bytes => is_of_rust && !matches!(self.question, Loader | Bases(_)),
+            Ready => is_of_rust,
             Library => true,
         }
     }
@@ -275,7 +359,9 @@ impl Case {
             Range => (calls.relocation_base_range)(sheet, 1, self.last.0, 1, self.last.1, 3),
             Strict(_) => (calls.strict_verdict)(sheet, 0),
             Report(_) => (calls.report)(sheet, lent, 6),
-            Loader | Bases(_) => unreachable!("more than one call"),
+            Owner => (calls.region_of)(sheet, 1, self.highest_address(), 3),
+            Index => (calls.region_index)(sheet, 1, lent, 3),
+            Loader | Bases(_) | Lookups => unreachable!("more than one call"),
         }
     }
 
@@ -298,18 +384,16 @@ impl Case {
         answer
     }
 
-    /// The answer over the range by plain Rust.
-    fn plain_range(&self) -> [u64; 4] {
-        let numbers = ranges::by_plain(black_box(&self.sheet[..]), 1, self.last.0, (1, self.last.1));
-        assert_eq!(numbers[3], self.answer);
-        numbers
-    }
-
-    /// The report by plain Rust.
-    fn plain_report(&self, lent: &mut [u8]) -> report::Numbers {
-        let numbers = report::by_plain(black_box(&self.sheet[..]), lent);
-        assert_eq!(numbers[6], self.answer);
-        numbers
+    /// What the call returns, by plain Rust, where it is no verdict.
+    fn plain_number(&self, lent: &mut [u8]) -> u64 {
+        let sheet = black_box(&self.sheet[..]);
+        match self.question {
+            Range => ranges::by_plain(sheet, 1, self.last.0, (1, self.last.1))[3],
+            Report(_) => report::by_plain(sheet, lent)[6],
+            Owner => owner::by_plain(sheet, 1, self.highest_address())[3],
+            Index => owner::index_by_plain(sheet, 1, lent)[3],
+            _ => unreachable!("plain Rust has a verdict, or no answer by the sheet"),
+        }
     }
 
     /// The Rust's answer. The file is returned too, so that it is dropped later.
@@ -330,10 +414,11 @@ impl Case {
         match side {
             Library if self.question == Loader => self.load(times),
             Library if self.has_bases() => self.check_bases(calls.region_base_valid, times),
+            Library if self.question == Lookups => self.look_up(|gpa| (calls.region_in)(black_box(&self.index), gpa), times),
             Library => self.asked(calls, self.question, self.answer, times),
             Verdict => self.asked(calls, Accepted, self.number(), times),
             Base => self.asked(calls, Check, 1, times),
-            Plain | Ready | Bytes | Alone => self.peer(side, times),
+            Plain | Ready | Bytes | Alone | Search => self.peer(side, times),
         }
     }
 
@@ -352,14 +437,12 @@ impl Case {
                 let region = words(&self.region).and_then(Relocated::region).expect("a region of the Rust");
                 self.check_bases(|_, base| u64::from(black_box(&region).relocation_base_valid(base)), times)
             }
-            Plain if self.question == Range => {
-                self.plain_range();
-                time(vec![(); times], |()| self.plain_range())
-            }
-            Plain if matches!(self.question, Report(_)) => {
+            Plain if self.question == Lookups => self.look_up(|gpa| owner::by_scan(black_box(&self.regions).iter().copied(), gpa), times),
+            Search => self.look_up(|gpa| owner::by_search(black_box(&self.regions), gpa), times),
+            Plain if matches!(self.question, Range | Report(_) | Owner | Index) => {
                 let mut lent = self.to_lend();
-                self.plain_report(&mut lent);
-                time(vec![(); times], |()| self.plain_report(&mut lent))
+                self.plain_number(&mut lent);
+                time(vec![(); times], |()| assert_eq!(self.plain_number(&mut lent), self.answer))
             }
             Plain => {
                 let verdict = if let Strict(_) = self.question { strict::by_plain } else { plain::verdict };
@@ -398,13 +481,17 @@ impl Case {
     }
 
     fn line(&self, best: &[(Side, f64)]) -> String {
-        let rows = Some(self.headers.kinds.len() as f64).filter(|_| !self.has_bases());
-        let bytes = if self.has_bases() { self.region.len() } else { self.sheet.len() };
+        let rows = Some(self.headers.kinds.len() as f64).filter(|_| !self.is_by_words());
+        let bytes = match self.question {
+            Bases(_) => self.region.len(),
+            Lookups => self.index.len(),
+            _ => self.sheet.len(),
+        };
         let of = |side: Side| best.iter().find(|(other, _)| *other == side).map(|(_, least)| *least);
         let column = |number: Option<f64>, digits: usize| number.map_or(format!("{:>11}", "-"), |n| format!("{n:>11.digits$}"));
         let mut line = format!("{:<24}{}{bytes:>11}", self.name, column(rows, 0));
         line += &(column(of(Library), self.digits()) + &column(of(Library).zip(rows).map(|(least, rows)| least / rows), 1));
-        for side in [Plain, Ready, Bytes, Alone, Verdict, Base] {
+        for side in [Plain, Ready, Bytes, Alone, Verdict, Base, Search] {
             let ratio = of(Library).zip(of(side)).map(|(library, other)| library / other);
             line += &(column(of(side), self.digits()) + &column(ratio, 2));
         }
@@ -433,6 +520,9 @@ fn each_case(each: &mut dyn FnMut(String, &dyn Fn(String) -> Case)) {
     add("table-first-64".into(), Accepted, &|| table_first(64));
     add("descending-64".into(), Accepted, &|| descending(64, 1));
     add("bits-64".into(), Accepted, &|| descending(64, 0xFFFF_FFFF));
+    add("random-64".into(), Accepted, &|| in_no_order(64));
+    add("pairs-64".into(), Accepted, &|| two_masks(64, |_| 0));
+    add("halves-64".into(), Accepted, &|| two_masks(64, |row| row % 2));
     for rows in ROWS {
         add(format!("pages-{rows}"), Accepted, &|| pages(rows, 0));
         add(format!("full-pages-{rows}"), Accepted, &|| pages(rows, 4096));
@@ -481,6 +571,13 @@ fn each_case(each: &mut dyn FnMut(String, &dyn Fn(String) -> Case)) {
     add("report-8192".into(), Report(0), &|| areas(8192, SPREAD));
     for rows in [1024, 2048, 4096, 8192] {
         add(format!("report-half-{rows}"), Report(32), &|| half_faulty(rows));
+    }
+    add("region-of-64".into(), Owner, &|| initializations(64));
+    add("region-of-random-64".into(), Owner, &|| in_no_order(64));
+    add("region-index-64".into(), Index, &|| initializations(64));
+    add("region-index-random-64".into(), Index, &|| in_no_order(64));
+    for rows in [8, 64] {
+        add(format!("region-in-{rows}"), Lookups, &|| apart(rows));
     }
     for alignment in [0x1000, 0x20_0000, 0x4000_0000, 1 << 57, 0x3000, 0x5000, 0x60_0000] {
         add(format!("aligned-{}", named(alignment)), Accepted, &|| aligned(64, alignment));
@@ -540,6 +637,31 @@ fn descending(rows: u64, mask: u64) -> Image {
     let mut initializations: Vec<Row> = (0..rows - 1).rev().map(|row| region(mask, 0x2000 * row, 0x2000)).collect();
     initializations.push(page_table(mask, 0x2000 * rows, 0x2000));
     image(initializations, vec![vbs(0, mask, 0)])
+}
+
+/// Regions side by side, in an order of addresses that neither rises nor falls, and a context.
+fn in_no_order(rows: u64) -> Image {
+    let mut image = initializations(rows);
+    Random::new(9, 0).shuffle(&mut image.lists[1]);
+    image
+}
+
+/// Regions of mask 1 and of mask 2 over one another, ascending in pairs, those of a lower part before the others.
+fn two_masks(rows: u64, part: impl Fn(&u64) -> u64) -> Image {
+    let mut order: Vec<u64> = (0..rows).collect();
+    order.sort_by_key(part);
+    let regions = order.into_iter().map(|row| region(1 + row % 2, 0x2000 * (row / 2), 0x2000)).collect();
+    image(regions, vec![vbs(0, 1, 0), vbs(0, 2, 0)])
+}
+
+/// Regions of mask 1 in the same sort of order, with as much room before, between and behind them as they take.
+fn apart(rows: u64) -> Image {
+    let mut image = in_no_order(rows);
+    for row in &mut image.lists[1] {
+        let gpa = row.get("gpa").expect("a region");
+        row.set("gpa", 2 * gpa + 0x2000);
+    }
+    image
 }
 
 /// The same with all 32 bits, and a context for each of them.
