@@ -16,7 +16,7 @@ from pathlib import Path
 
 CALLS = 5
 # A case of bases checks so many at a time, and one of lookups looks up so many addresses (src/speed.rs).
-AT_A_TIME = {"base-": 64, "region-in-": 4096}
+AT_A_TIME = {"base-": 64, "region-in-": 65536}
 
 
 def said(*command):

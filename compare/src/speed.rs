@@ -127,8 +127,8 @@ use Question::{Accepted, Bases, Check, Index, Loader, Lookups, Numbers, Owner, R
 /// How many bases are checked at a time, since a check is as short as what it takes to measure one.
 const BASES: u64 = 64;
 
-/// How many addresses are looked up at a time: more than the processor can learn the answers of.
-const ADDRESSES: u64 = 4096;
+/// How many addresses are looked up at a time: more than the processor can learn the answers of. Of 4,096 it learns those among 8 regions.
+const ADDRESSES: u64 = 65_536;
 
 /// An image, and what is asked of it.
 pub struct Case {
