@@ -25,7 +25,7 @@ extern "C" {
 #endif
 
 /* The library's version; docs/CHANGELOG.md of the repository says what changed. */
-enum { IGVM_VERSION_MAJOR = 0, IGVM_VERSION_MINOR = 7, IGVM_VERSION_PATCH = 0 };
+enum { IGVM_VERSION_MAJOR = 0, IGVM_VERSION_MINOR = 8, IGVM_VERSION_PATCH = 0 };
 
 /* Limits: a sheet with more rows in a list, or with more bytes, is refused by IGVM_ERROR_LIMIT_EXCEEDED.
  *
@@ -176,6 +176,36 @@ uint64_t igvm_contains_numbers(const uint8_t *sheet, size_t sheet_len, uint32_t 
  * Of a base that is 1 to 4: again a number other than 0 is no yes, and is to be compared with IGVM_BASE_VALID (before 0.4.0: 1 or 0). Of an address it is 1 or 0. */
 uint64_t igvm_region_base_valid(const uint8_t *region, size_t region_len, uint64_t base);
 uint64_t igvm_region_contains(const uint8_t *region, size_t region_len, uint64_t gpa);
+
+/* Which region of the mask owns the address, any address: of the regions whose mask holds every bit of the mask, page-table regions included, the one from whose start up
+ * to, not including, start + size it lies. A page-table region counts with its size, whatever its used size. 3 the region's row in the sheet, from 1 over the three lists,
+ * or 0 where no region of the mask holds the address. There is never more than one (IGVM_ERROR_RELOCATION_REGIONS_OVERLAP).
+ *
+ * Refused: by igvm_verdict's refusal, with its row and detail, then by IGVM_ERROR_QUERY_MASK_ZERO. Number 1 is the refusal's row, and number 3 is 0 in a refusal. An answer
+ * has IGVM_CHECK_NUMBERS. The sheet is judged anew by each call: who looks up many addresses makes an index, below. Before 0.8.0 there was no such call. */
+enum { IGVM_REGION_ROW = 3 };
+uint64_t igvm_region_of(const uint8_t *sheet, size_t sheet_len, uint32_t mask, uint64_t gpa, uint32_t which);
+uint64_t igvm_region_of_numbers(const uint8_t *sheet, size_t sheet_len, uint32_t mask, uint64_t gpa, uint8_t *numbers, size_t numbers_len);
+
+/* An index of the mask's regions, by which igvm_region_in finds the owner of an address without the sheet. Of each region whose mask holds every bit of the mask, page-table
+ * regions included, it has IGVM_REGION_INDEX_WORDS in the lent bytes: start, size (not the used size), row in the sheet. They stand in the order of their starts, the lowest
+ * first; no two regions of a mask start at one address. 3 how many regions (IGVM_COUNT).
+ *
+ * Refused: as igvm_region_of is, and then by IGVM_ERROR_TOO_FEW_WORDS_LENT, where fewer than IGVM_REGION_INDEX_WORDS whole words are lent for each region. A mask without
+ * regions needs no word, and IGVM_MAX_REGION_INDEX_WORDS (1,536 bytes) are enough for any sheet. A refused call writes no word. An answer has IGVM_CHECK_NUMBERS. Before
+ * 0.8.0 there was no such call. */
+enum { IGVM_REGION_INDEX_WORDS = 3, IGVM_MAX_REGION_INDEX_WORDS = IGVM_REGION_INDEX_WORDS * IGVM_MAX_INITIALIZATION_ROWS };
+uint64_t igvm_region_index(const uint8_t *sheet, size_t sheet_len, uint32_t mask, uint8_t *words, size_t words_len, uint32_t which);
+uint64_t igvm_region_index_numbers(const uint8_t *sheet, size_t sheet_len, uint32_t mask, uint8_t *words, size_t words_len, uint8_t *numbers, size_t numbers_len);
+
+/* The row of the region that owns the address, or 0 for none, by the words of an index: the 8 * IGVM_REGION_INDEX_WORDS * count bytes that igvm_region_index filled, and not
+ * the bytes behind them. It answers as igvm_region_of does on the index's sheet and mask, for every address. An index stands for its sheet alone: where the sheet changes, make
+ * it anew.
+ *
+ * It goes through the regions in their order. At the first that starts above the address the answer is 0, at the first that holds the address it is the row. Sums are exact. Of
+ * other bytes it says what their words give, and bytes short of IGVM_REGION_INDEX_WORDS words don't count: in fewer than 24 bytes there is no region. Before 0.8.0 there was no
+ * such call. */
+uint64_t igvm_region_in(const uint8_t *words, size_t words_len, uint64_t gpa);
 
 #ifdef __cplusplus
 }
