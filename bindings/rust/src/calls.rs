@@ -55,6 +55,18 @@ mod linked {
         ) -> u64;
         pub fn igvm_region_base_valid(region: *const u8, region_len: usize, base: u64) -> u64;
         pub fn igvm_region_contains(region: *const u8, region_len: usize, gpa: u64) -> u64;
+        pub fn igvm_region_of_numbers(sheet: *const u8, sheet_len: usize, mask: u32, gpa: u64, numbers: *mut u8, numbers_len: usize)
+            -> u64;
+        pub fn igvm_region_index_numbers(
+            sheet: *const u8,
+            sheet_len: usize,
+            mask: u32,
+            words: *mut u8,
+            words_len: usize,
+            numbers: *mut u8,
+            numbers_len: usize,
+        ) -> u64;
+        pub fn igvm_region_in(words: *const u8, words_len: usize, gpa: u64) -> u64;
     }
 
     // One number of an answer for each call. The tests below hold the whole answers to them.
@@ -75,6 +87,8 @@ mod linked {
             which: u32,
         ) -> u64;
         pub fn igvm_contains(sheet: *const u8, sheet_len: usize, mask: u32, region: u64, gpa: u64, which: u32) -> u64;
+        pub fn igvm_region_of(sheet: *const u8, sheet_len: usize, mask: u32, gpa: u64, which: u32) -> u64;
+        pub fn igvm_region_index(sheet: *const u8, sheet_len: usize, mask: u32, words: *mut u8, words_len: usize, which: u32) -> u64;
     }
 }
 
@@ -129,6 +143,25 @@ fn relocation_base_range_numbers(sheet: &[u8], mask: u32, region: u64, lowest: u
 fn contains_numbers(sheet: &[u8], mask: u32, region: u64, gpa: u64) -> [u64; 4] {
     // SAFETY: the pointers and the lengths are those of two slices that share nothing; the sheet is only read.
     numbers(|lent| unsafe { linked::igvm_contains_numbers(sheet.as_ptr(), sheet.len(), mask, region, gpa, lent.as_mut_ptr(), lent.len()) })
+}
+
+pub(crate) fn region_of_numbers(sheet: &[u8], mask: u32, gpa: u64) -> [u64; 4] {
+    // SAFETY: the pointers and the lengths are those of two slices that share nothing; the sheet is only read.
+    numbers(|lent| unsafe { linked::igvm_region_of_numbers(sheet.as_ptr(), sheet.len(), mask, gpa, lent.as_mut_ptr(), lent.len()) })
+}
+
+pub(crate) fn region_index_numbers(sheet: &[u8], mask: u32, words: &mut [u8]) -> [u64; 4] {
+    let (sheet_len, words_len) = (sheet.len(), words.len());
+    // SAFETY: the pointers and the lengths are those of three slices that share nothing; the sheet is only read.
+    numbers(|lent| unsafe {
+        linked::igvm_region_index_numbers(sheet.as_ptr(), sheet_len, mask, words.as_mut_ptr(), words_len, lent.as_mut_ptr(), lent.len())
+    })
+}
+
+/// The row by an index's words, or 0.
+pub(crate) fn region_in_number(words: &[u8], gpa: u64) -> u64 {
+    // SAFETY: the pointer and the length are those of a slice, which is only read.
+    unsafe { linked::igvm_region_in(words.as_ptr(), words.len(), gpa) }
 }
 
 /// The numbers of an answer, unless the first three say that it is a refusal.
@@ -248,7 +281,7 @@ pub struct IgvmRelocatableRegion {
 pub const REGION_BYTES: usize = 64;
 
 /// As many regions as a sheet can have: its initialization rows are at most 64.
-const MOST_REGIONS: usize = 64;
+pub(crate) const MOST_REGIONS: usize = 64;
 
 impl IgvmRelocatableRegion {
     /// The region that eight words say, as [`relocations_into`] leaves them. None for other bytes: flags above 7, a VP index above 65,535 or a VTL above 2.
@@ -351,7 +384,7 @@ pub struct Filled {
 }
 
 /// What a library that keeps to include/igvm.h can't answer. A panic stands in for a number that would be cut.
-const BROKEN: &str = "libigvm.a breaks the promises of include/igvm.h";
+pub(crate) const BROKEN: &str = "libigvm.a breaks the promises of include/igvm.h";
 
 /// The answer of this number, which is that of a region. A library before 0.4.0 gives 0 where a base is not valid.
 fn base_check(number: u64) -> BaseCheck {
@@ -568,6 +601,44 @@ mod tests {
     }
 
     #[test]
+    fn an_owners_numbers_are_those_of_the_calls_by_which() {
+        let (mut refusals, mut rows) = (BTreeSet::new(), BTreeSet::new());
+        for sheet in sheets() {
+            for (mask, gpa) in (0..4).flat_map(|mask| [0, 0x10_0000, 0x10_1FFF, 0x10_2000, 0x30_1FFF, u64::MAX].map(|gpa| (mask, gpa))) {
+                let (start, length) = (sheet.as_ptr(), sheet.len());
+                // SAFETY: the pointer and the length are those of a slice, which is only read.
+                let single = one_by_one(|which| unsafe { linked::igvm_region_of(start, length, mask, gpa, which) });
+                assert_eq!(region_of_numbers(&sheet, mask, gpa), single);
+                assert!(single[0] == 0 || single[3] == 0, "a refusal has no owner");
+                refusals.insert(single[0]);
+                rows.insert(single[3]);
+            }
+        }
+        assert_eq!(refusals.into_iter().collect::<Vec<_>>(), (0..=35).collect::<Vec<_>>());
+        assert!([0, 2, 3].iter().all(|row| rows.contains(row)), "{rows:?}");
+    }
+
+    #[test]
+    fn an_indexs_numbers_and_words_are_those_of_the_calls_by_which() {
+        let mut refusals = BTreeSet::new();
+        for sheet in sheets() {
+            for (mask, lent) in (0..4).flat_map(|mask| [0, 23, 24, 48, 1535, 1536, 1545].map(|lent| (mask, lent))) {
+                let (mut words, mut single_words) = (vec![0xA5; lent], vec![0xA5; lent]);
+                // SAFETY: the pointers and the lengths are those of two slices that share nothing; the sheet is only read.
+                let single = one_by_one(|which| unsafe {
+                    linked::igvm_region_index(sheet.as_ptr(), sheet.len(), mask, single_words.as_mut_ptr(), lent, which)
+                });
+                assert_eq!(region_index_numbers(&sheet, mask, &mut words), single);
+                assert_eq!(words, single_words);
+                assert!(single[0] == 0 || single[3] == 0 && words == vec![0xA5; lent], "a refusal has no count and no word");
+                assert!(words[24 * single[3] as usize..].iter().all(|&byte| byte == 0xA5), "bytes behind the words are kept");
+                refusals.insert(single[0]);
+            }
+        }
+        assert_eq!(refusals.into_iter().collect::<Vec<_>>(), (0..=35).chain([37]).collect::<Vec<_>>());
+    }
+
+    #[test]
     fn no_number_is_put_where_one_has_no_room() {
         let sheet = [0; 16];
         let mut lent = [0xA5; 47];
@@ -595,6 +666,18 @@ mod tests {
         let number =
             unsafe { linked::igvm_relocation_base_range_numbers(sheet.as_ptr(), sheet.len(), 1, 0, 0, 0, lent.as_mut_ptr(), lent.len()) };
         assert_eq!((number, lent), (2, [0xA5; 31]));
+        // SAFETY: as above.
+        let number = unsafe { linked::igvm_region_of_numbers(sheet.as_ptr(), sheet.len(), 1, 0, lent.as_mut_ptr(), lent.len()) };
+        assert_eq!((number, lent), (2, [0xA5; 31]));
+        let image_b = fs::read(concat!(env!("CARGO_MANIFEST_DIR"), "/../../samples/accepted-image-b.sheet")).unwrap();
+        let (start, length) = (image_b.as_ptr(), image_b.len());
+        let mut words = [0xA5; 25];
+        // SAFETY: the pointers and the lengths are those of three slices that share nothing; the sheet is only read.
+        let number =
+            unsafe { linked::igvm_region_index_numbers(start, length, 1, words.as_mut_ptr(), words.len(), lent.as_mut_ptr(), lent.len()) };
+        let mut region = [0xA5; 25];
+        region[..24].copy_from_slice([0x10_0000, 0x2000, 2].map(u64::to_le_bytes).as_flattened());
+        assert_eq!((number, words, lent), (0, region, [0xA5; 31]), "the words of the regions are put all the same");
     }
 
     #[test]

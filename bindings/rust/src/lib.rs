@@ -3,8 +3,9 @@
 //! A [`Sheet`] holds the values of an image's headers, and [`Sheet::bytes`] writes them as the library reads them. [`verdict`] says whether the image is
 //! accepted, [`strict_verdict`] whether each of its regions has a context for every platform too, and [`relocations`] which regions of a mask may be relocated;
 //! the methods of a region say where to, and by a [`BaseCheck`] why not. Where its base is known only as a range, [`relocation_base_range`] says by a [`BaseRange`]
-//! whether it may go to all of it. Each takes any bytes, makes one call of the library, and answers or gives one [`Refusal`], with its row, its list and index
-//! there, its reason and its cure. A refusal is the first fault alone: [`report`] tells an image's builder of all faulty rows in one pass.
+//! whether it may go to all of it. [`region_of`] says which region owns an address, and a [`RegionIndex`], made once, which own any number of them. Each takes any
+//! bytes, makes one call of the library, and answers or gives one [`Refusal`], with its row, its list and index there, its reason and its cure. A refusal is the
+//! first fault alone: [`report`] tells an image's builder of all faulty rows in one pass.
 //!
 //! ```
 //! use sapyullu::*;
@@ -49,6 +50,7 @@ mod calls;
 mod headers;
 mod place;
 mod refusal;
+mod region_index;
 mod report;
 mod sheet;
 
@@ -60,6 +62,7 @@ pub use headers::{Arch, IgvmDirectiveHeader, IgvmInitializationHeader, IgvmPlatf
 pub use headers::{IgvmPageDataType, IgvmPlatformType, IGVM_VHS_PARAMETER, IGVM_VHS_PARAMETER_INSERT, IGVM_VHS_SUPPORTED_PLATFORM};
 pub use place::{List, Place};
 pub use refusal::{Error, Refusal};
+pub use region_index::{region_in, region_index_into, region_of, IndexedRegion, RegionIndex, REGION_INDEX_BYTES};
 pub use report::{report, report_into, FaultyRow, Report, Reported};
 pub use sheet::{sheet_bytes, Sheet, SheetError};
 

@@ -161,7 +161,8 @@ errors! {
     36 NoSuchRegion, "the mask has no relocatable region of this number",
         "ask for a number below the mask's count of relocatable regions", Detail::None;
     37 TooFewWordsLent, "fewer whole words are lent than the answer takes",
-        "lend 64 bytes for each region of a region list, or 8 for each row of a report; 4,096 and 66,176 are enough for any sheet", Detail::None;
+        "lend 64 bytes for each region of a region list, 24 for each of an index, or 8 for each row of a report; 4,096, 1,536 and 66,176 are enough for any sheet",
+        Detail::None;
     38 BitWithoutVpContext, "the region's mask has a bit that no VBS context of its VTL has",
         "list for each bit of the region's mask a VBS context of its VTL with that bit, or take the bit out of the region's mask", Hexadecimal("mask");
     50 LowestAboveHighest, "the range's lowest base is above its highest",

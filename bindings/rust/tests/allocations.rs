@@ -1,4 +1,4 @@
-//! A sheet is one allocation, of its length, and the calls allocate nothing but a list of regions, and a report's words and its list.
+//! A sheet is one allocation, of its length, and the calls allocate nothing but a list of regions, an index's words, and a report's words and its list.
 
 mod common;
 mod counting;
@@ -41,6 +41,23 @@ fn a_list_of_regions_is_one_allocation_and_other_answers_are_none() {
         let words = region.contains(0) && region.relocation_base_valid(0).is_valid();
         let verdicts = verdict(&sheet).is_ok() && verdict(&[]).is_err() && strict_verdict(&sheet).is_ok() && strict_verdict(&[]).is_err();
         checks && ranges && words && verdicts
+    });
+    assert!(answers);
+    assert_eq!(made, []);
+}
+
+#[test]
+fn an_index_is_one_allocation_of_its_words_and_looking_up_is_none() {
+    let sheet = large().bytes().unwrap();
+    let (index, made) = counted(|| RegionIndex::new(&sheet, 1).unwrap());
+    assert_eq!((index.len(), made), (64, vec![64 * REGION_INDEX_BYTES]));
+    let mut words = [0; 64 * REGION_INDEX_BYTES];
+    let (answers, made) = counted(|| {
+        let filled = region_index_into(&sheet, 1, &mut words).is_ok() && region_index_into(&sheet, 1, &mut words[1..]).is_err();
+        let owners = [index.region_of(0x7_FFFF), region_in(&words, 0x7_FFFF), region_of(&sheet, 1, 0x7_FFFF).unwrap()];
+        let none =
+            RegionIndex::new(&sheet, 2).unwrap().is_empty() && RegionIndex::new(&sheet, 0).is_err() && index.region_of(0x8_0000).is_none();
+        filled && owners == [Some(65); 3] && none && index.regions().len() == 64
     });
     assert!(answers);
     assert_eq!(made, []);

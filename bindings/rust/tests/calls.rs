@@ -283,4 +283,7 @@ fn empty_input_is_refused_by_every_call() {
     assert_eq!(relocation_base_valid(&[], 1, 0, 0), Err(refusal));
     assert_eq!(relocation_base_range(&[], 1, 0, 0, 0), Err(refusal));
     assert_eq!(contains(&[], 1, 0, 0), Err(refusal));
+    assert_eq!(region_of(&[], 1, 0), Err(refusal));
+    assert_eq!(region_index_into(&[], 1, &mut []), Err(refusal));
+    assert_eq!(RegionIndex::new(&[], 1), Err(refusal));
 }

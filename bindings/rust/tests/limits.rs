@@ -45,10 +45,13 @@ fn over_a_limit(sheet: &[u8]) {
     assert_eq!(report_into(sheet, &mut lent), Err(refusal));
     assert_eq!(relocations(sheet, 0), Err(refusal));
     assert_eq!(relocations_into(sheet, 1, &mut lent), Err(refusal));
+    assert_eq!(region_index_into(sheet, 1, &mut lent), Err(refusal));
     assert_eq!(lent, [0xA5; REGION_BYTES]);
     assert_eq!(relocation_base_valid(sheet, 1, 0, 0), Err(refusal));
     assert_eq!(relocation_base_range(sheet, 1, 0, 1, 0), Err(refusal));
     assert_eq!(contains(sheet, 1, 9, 0), Err(refusal));
+    assert_eq!(region_of(sheet, 0, 0), Err(refusal));
+    assert_eq!(RegionIndex::new(sheet, 0), Err(refusal));
 }
 
 #[test]
@@ -73,6 +76,8 @@ fn a_firmware_of_6000_pages_is_accepted() {
     assert_eq!(relocation_base_valid(&sheet, 1, 0, 0x1F_E000), Ok(BaseCheck::Valid));
     assert_eq!(relocation_base_range(&sheet, 1, 0, 0, 0x1F_E000), Ok(BaseRange::Always));
     assert_eq!(contains(&sheet, 1, 0, 0x10_2000), Ok(false));
+    assert_eq!(region_of(&sheet, 1, 0x10_1FFF), Ok(Some(2)));
+    assert_eq!(RegionIndex::new(&sheet, 1), RegionIndex::new(&image_b().bytes().unwrap(), 1));
     directives[5999] = page(1, &data);
     let refusal = verdict(&with_directives(&directives)).unwrap_err();
     assert_eq!((refusal.error, refusal.row, refusal.detail), (Error::UnalignedAddress, Some(6002), 1));
@@ -161,6 +166,8 @@ fn a_thread_with_128_kib_of_stack_is_enough() {
             assert_eq!(report(&sheet).unwrap().is_accepted(), verdict(&sheet).is_ok());
             assert_eq!(relocation_base_valid(&sheet, 1, 0, 0).is_ok(), verdict(&sheet).is_ok());
             assert_eq!(relocation_base_range(&sheet, 1, 0, 0, 0).is_ok(), verdict(&sheet).is_ok());
+            assert_eq!(region_of(&sheet, 1, 0x10_0000).ok(), count.map(|_| Some(2)));
+            assert_eq!(RegionIndex::new(&sheet, 1).ok().map(|index| index.len()), count);
             relocations(&sheet, 1).ok().map(|found| found.regions.len())
         };
         let thread = std::thread::Builder::new().stack_size(128 * 1024).spawn(calls).unwrap();

@@ -30,13 +30,20 @@ fn reported_line(reported: Reported, words: &[u8]) -> String {
     format!("reported {} of {}{}", reported.faulty_rows, reported.rows, rows.chain(told).collect::<String>())
 }
 
+/// How many regions an index has, and of each its start, its size and its row, in its order.
+fn indexed_line(count: usize, words: &[u8]) -> String {
+    let numbers: Vec<u64> = words.chunks_exact(8).map(|word| u64::from_le_bytes(word.try_into().unwrap())).collect();
+    let regions = numbers.chunks_exact(3).take(count).map(|region| format!(", {} size {} row {}", region[0], region[1], region[2]));
+    format!("indexed {count}{}", regions.collect::<String>())
+}
+
 impl Sample {
     fn sheet(&self) -> Vec<u8> {
         fs::read(Path::new(FOLDER).join(&self.file)).unwrap()
     }
 
-    /// The call's answer: a line of an accepted verdict or of a report, for other calls that are answered a line with the number of a check of a base or of
-    /// a range, or the refusal.
+    /// The call's answer: a line of an accepted verdict, of a report or of an index, for other calls that are answered a line with the number of a check of a base
+    /// or of a range, or with the row of an address's owner, or the refusal.
     fn made(&self) -> Result<String, Refusal> {
         let sheet = self.sheet();
         let words: Vec<&str> = self.call.split(' ').collect();
@@ -59,6 +66,16 @@ impl Sample {
             ["relocation_base_range", "mask", mask, "region", region, "lowest", lowest, "highest", highest] => {
                 let range = relocation_base_range(&sheet, number(mask) as u32, number(region), number(lowest), number(highest));
                 range.map(|range| format!("answered {}", range.number()))
+            }
+            ["region_of", "mask", mask, "gpa", gpa] => {
+                let (mask, gpa) = (number(mask) as u32, number(gpa));
+                let owner = region_of(&sheet, mask, gpa);
+                assert_eq!(owner, RegionIndex::new(&sheet, mask).map(|index| index.region_of(gpa)), "{}", self.file);
+                owner.map(|row| format!("answered {}", row.unwrap_or(0)))
+            }
+            ["region_index", "mask", mask, "lent", lent] => {
+                let mut words = vec![0; number(lent) as usize];
+                region_index_into(&sheet, number(mask) as u32, &mut words).map(|count| indexed_line(count, &words))
             }
             _ => panic!("no such call: {}", self.call),
         }
@@ -102,6 +119,8 @@ fn every_other_call_gives_the_verdicts_refusal_of_a_refused_sheet() {
             assert_eq!(relocation_base_valid(&sheet, 1, 9, 0), Err(refusal), "{}", sample.file);
             assert_eq!(relocation_base_range(&sheet, 1, 9, 1, 0), Err(refusal), "{}", sample.file);
             assert_eq!(contains(&sheet, 1, 9, 0), Err(refusal), "{}", sample.file);
+            assert_eq!(region_of(&sheet, 0, 0), Err(refusal), "{}", sample.file);
+            assert_eq!(region_index_into(&sheet, 0, &mut []), Err(refusal), "{}", sample.file);
         }
     }
 }
