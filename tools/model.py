@@ -1,5 +1,5 @@
 """The verdict of document 01 on a sheet, with the limits of request 1, the report of request 2, the strict verdict of request 3, the refusals of its queries, the base
-check of request 7, and the range of request 13, written from the papers alone and as plainly as it goes.
+check of request 7, the owner of an address of request 9, and the range of request 13, written from the papers alone and as plainly as it goes.
 
 It serves one purpose: `sheets.py --check` holds the lines that are written by hand beside the samples against it.
 Rows are numbered from 1 across the lists, as in the paper.
@@ -307,14 +307,53 @@ def base_range(s, mask, region, lowest, highest):
     return "answered 3"
 
 
+def owning(s, mask):
+    """35: start, size and row of each region of either kind that matches the query mask."""
+    lists, _ = admitted(s)
+    refuse(mask == 0, 35)
+    regions = []
+    for row, kind, body in lists[1]:
+        if kind in (18, 19):
+            # Kind 18 has its alignment between mask and gpa.
+            mask2, start, size = struct.unpack_from("<I8xQQ" if kind == 18 else "<IQQ", body)
+            regions += [(start, size, row)] * (mask2 & mask == mask)
+    return regions
+
+
+def region_of(s, mask, gpa):
+    """The row of the region that contains the address, by a full reading; 0 where none does. No two can (29)."""
+    rows = [row for start, size, row in owning(s, mask) if start <= gpa < start + size]
+    assert len(rows) <= 1
+    return "answered %d" % sum(rows)
+
+
+def region_index(s, mask, lent=None):
+    """37: three words for each region, in the bytes lent (None: as many as it takes). Then how many regions there are, and each with start, size and row, the lowest start
+    first."""
+    regions = sorted(owning(s, mask))
+    refuse(lent is not None and lent // 8 < 3 * len(regions), 37)
+    return ", ".join([f"indexed {len(regions)}", *("%d size %d row %d" % region for region in regions)])
+
+
+def region_in(words, gpa):
+    """The row that the words of an index say of the address, whatever bytes they are: three words for each region, and bytes left over don't count."""
+    for start, size, row in struct.iter_unpack("<QQQ", words[:len(words) // 24 * 24]):
+        if start > gpa:
+            break
+        if gpa < start + size:
+            return f"answered {row}"
+    return "answered 0"
+
+
 CALLS = {"verdict": verdict, "strict_verdict": strict_verdict, "report": report, "relocations": relocations, "relocation_base_valid": base_check,
-         "relocation_base_range": base_range, "contains": contains}
+         "relocation_base_range": base_range, "contains": contains, "region_of": region_of, "region_index": region_index, "region_in": region_in}
 
 
 def line(s, call="verdict"):
     """The line that `admit` writes of a sheet, where the call is the verdict; a sheet of more than 65,536 bytes is answered as by the call.
     Another call has the names of its numbers, each before its number, if it takes some: `relocations mask 1 lent 64`. Where it is refused, the line says so
-    likewise; of a base or a range that is checked, it says which answer is given, by its number; of a report all faults, each with its row."""
+    likewise; of a base or a range that is checked, it says which answer is given, by its number; of a report all faults, each with its row; of an address its owner's row, or
+    0; of an index its regions. `region_in` takes the words of an index for a sheet."""
     name, *words = call.split()
     try:
         return CALLS[name](s, **dict(zip(words[::2], map(int, words[1::2]))))

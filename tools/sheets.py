@@ -8,8 +8,8 @@ other numbers in its head. A is B on AArch64. What can't be said in this way cha
 
 The line beside a sample is written by hand from the paper. `--check` holds it against tools/model.py.
 
-    tools/sheets.py --check              every line against the model, the model's reports against its verdicts, and the files of crates/admit_sheets and of samples against what
-                                         is written
+    tools/sheets.py --check              every line against the model, the model's reports against its verdicts, its indexes against its full reading, and the files of
+                                         crates/admit_sheets and of samples against what is written
     tools/sheets.py --list               each sample's name, line and description
     tools/sheets.py --write DIR NAME..   write these samples (no NAME: all of up to 65,536 bytes) into DIR, and print 'name: line' for each
     tools/sheets.py --gate               write args, data/ and stdout of the program crates/admit_sheets
@@ -412,6 +412,19 @@ refused("29-shared-bit", 3, 0, "masks 3 and 6 share a bit", B.initializations(re
 accepted("apart-by-mask", "1 2 1", "regions of masks 1 and 2 at one place", B.plus(region(mask=2)).directives(x64_vbs(mask=3)))
 refused("29-page-table-after", 3, 0, "a page table in the region", B.plus(page_table(gpa=0x101000)))
 refused("29-page-table-before", 3, 0, "a region in the page table", B.initializations(page_table(), region(gpa=0x301000)))
+LONG = region(size=0x40000)  # from 0x100000 to 0x140000
+WITHIN = [region(mask=2, gpa=gpa) for gpa in (0x110000, 0x118000, 0x120000)]  # of another mask, each within LONG
+APART = B.directives(x64_vbs(mask=3))
+DOWN = [region(gpa=0x200000 - 0x3000 * number) for number in range(64)]
+refused("29-long-below-others", 6, 0, "a long region, three of another mask within it, and one that starts at its last page",
+        APART.initializations(LONG, *WITHIN, region(gpa=0x13F000)))
+accepted("long-below-others", "1 5 1", "the same, the last starts where the long region ends", APART.initializations(LONG, *WITHIN, region(gpa=0x140000)))
+refused("29-long-last", 5, 0, "two regions of another mask, one of mask 1 at 0x13E000, and a long region that reaches into it", APART.initializations(*WITHIN[:2], region(gpa=0x13E000), LONG))
+accepted("long-last", "1 4 1", "the same, and the region begins where the long one ends", APART.initializations(*WITHIN[:2], region(gpa=0x140000), LONG))
+accepted("64-regions-down", "1 64 1", "64 regions with a page between each two, the highest first", B.initializations(*DOWN))
+refused("29-64-regions-down", 65, 0, "64 regions, the highest first; the last fills the page between two of them, and one more", B.initializations(*DOWN[:-1], region(gpa=0x1A2000)))
+accepted("regions-over-one-another", "1 4 1", "regions of mask 1 at 0x180000 and from 0x100000 to 0x140000, one of mask 2 within the second, a page table of mask 3 at 0x160000",
+         APART.initializations(region(gpa=0x180000), LONG, WITHIN[0], page_table(mask=3, gpa=0x160000, size=0x4000)))
 refused("29-row-3", 3, 0, "row 3 overlaps, row 4 has size 0x2001", B.plus(region(gpa=0x101000), region(gpa=0x104000, size=0x2001)))
 refused("29-before-21", 3, 0, "row 3 overlaps, a page at gpa 1", B.plus(region(gpa=0x101000), page_data(gpa=1)))
 refused("34-mask-0-overlaps", 0, 0, "a region of mask 0 overlaps none, and has no context", B.plus(region(mask=0)))
@@ -741,6 +754,8 @@ SHOWN = [
     Shown("18-alignment-800", "18-800", "a region whose alignment is no multiple of 4096"),
     Shown("19-alignment-zero", "19-alignment", "a region of alignment 0, on which the Rust panics"),
     Shown("20-gpa-off-alignment", "20-gpa", "a region's gpa off its alignment; the detail is the gpa"),
+    Shown("region-of-20-first", "20-gpa", "the verdict's refusal comes first, with its row and its detail; 35, for mask 0, after it",
+          "region_of mask 0 gpa 1050624", "refused 20 row 2 detail 1050624"),
     Shown("21-gpa-1", "21-page-table", "a page-table region at gpa 1; the detail is the gpa"),
     Shown("22-size-1", "22-size", "a page-table region of size 1; the detail is the size"),
     Shown("23-used-above-size", "23-used", "a page-table region whose used size is above its size"),
@@ -758,10 +773,14 @@ SHOWN = [
     Shown("strict-34-first", "34-mask-3", "a region of mask 3 and a context of mask 1, then a region of VTL 1 without a context: 34 comes before 38",
           "strict_verdict", "refused 34 row 0 detail 0"),
     Shown("35-mask-zero", "b", "a query of mask 0", "relocations mask 0 lent 64", "refused 35 row 0 detail 0"),
+    Shown("region-of-35", "b", "an owner is asked for by mask 0", "region_of mask 0 gpa 1048576", "refused 35 row 0 detail 0"),
+    Shown("region-index-35", "regions-over-one-another", "an index of mask 0, and no bytes lent: 35 comes before 37", "region_index mask 0 lent 0", "refused 35 row 0 detail 0"),
     Shown("36-region-1", "b", "region 1 where there is one region: numbers count from 0",
           "relocation_base_valid mask 1 region 1 base 1048576", "refused 36 row 0 detail 0"),
     Shown("37-seven-words", "b", "seven words lent, where a region takes eight", "relocations mask 1 lent 56", "refused 37 row 0 detail 0"),
     Shown("report-37", "b", "two words and seven bytes lent, where each of three rows takes a word", "report lent 23", "refused 37 row 0 detail 0"),
+    Shown("region-index-37", "regions-over-one-another", "eight words and seven bytes lent, where each of three regions takes three words", "region_index mask 1 lent 71",
+          "refused 37 row 0 detail 0"),
     Shown("38-bit-without-context", "mask-3", "image B with region mask 3, a context of mask 1; the detail is the mask bit",
           "strict_verdict", "refused 38 row 2 detail 2"),
     Shown("38-first-of-two-regions", "masks-1-13-3", "regions of masks 1, 13 and 3, a context of mask 1: 4 and 8 of the second have none, and 2 of the third",
@@ -791,6 +810,21 @@ SHOWN = [
           "relocation_base_range mask 1 region 0 lowest 0 highest 2093056", "answered 3"),
     Shown("range-3-to-2-64", "maximum-top", "0xFFFFFFFFFFFFD000 to 2^64 - 1: base and size add up to 2^64 - 0x1000, the maximum, then to 2^64 and to 2^64 + 0x1000",
           "relocation_base_range mask 1 region 0 lowest 18446744073709539328 highest 18446744073709551615", "answered 3"),
+    Shown("region-of-start", "b", "0x100000, where the region starts", "region_of mask 1 gpa 1048576", "answered 2"),
+    Shown("region-of-last-byte", "b", "0x101FFF, the region's last byte", "region_of mask 1 gpa 1056767", "answered 2"),
+    Shown("region-of-one-past", "b", "0x102000, one past the region's last byte", "region_of mask 1 gpa 1056768", "answered 0"),
+    Shown("region-of-below-another", "regions-over-one-another",
+          "0x120000: the last that starts at or below it is the region of mask 2 in row 4, and the owner is the long region that starts before that one", "region_of mask 1 gpa 1179648",
+          "answered 3"),
+    Shown("region-of-other-mask", "regions-over-one-another", "0x110000, in regions of mask 1 and of mask 2, asked for by mask 2", "region_of mask 2 gpa 1114112", "answered 4"),
+    Shown("region-of-two-bits", "regions-over-one-another", "0x110000 again: neither region has both bits of mask 3", "region_of mask 3 gpa 1114112", "answered 0"),
+    Shown("region-of-page-table", "regions-over-one-another", "0x163FFF, the last byte of a page-table region of mask 3, size 0x4000 and used size 0x1000", "region_of mask 3 gpa 1458175",
+          "answered 5"),
+    Shown("region-of-no-region", "regions-over-one-another", "mask 4 has no region", "region_of mask 4 gpa 1048576", "answered 0"),
+    Shown("region-of-64-down", "64-regions-down", "0x143000, where the last and lowest of 64 regions starts", "region_of mask 1 gpa 1323008", "answered 65"),
+    Shown("region-index", "regions-over-one-another", "the regions of mask 1 in the order of their starts: rows 3, 5 and 2; the page-table region with its size", "region_index mask 1 lent 72",
+          "indexed 3, 1048576 size 262144 row 3, 1441792 size 16384 row 5, 1572864 size 8192 row 2"),
+    Shown("region-index-no-region", "regions-over-one-another", "mask 4 has no region, and its index needs no word", "region_index mask 4 lent 0", "indexed 0"),
     Shown("report-accepted", "b", "image B: nothing is wrong", "report lent 24", "reported 0 of 3"),
     Shown("report-no-rows", "15-no-rows", "a sheet without rows needs no word", "report lent 0", "reported 0 of 0, 15 row 0"),
     Shown("report-many-faults", "08-many-faults", "faults in all three lists, and rows between them that are in order", "report lent 160",
@@ -827,18 +861,19 @@ SHOWN = [
 FOLDER = REPOSITORY / "samples"
 README = """# Sample sheets
 
-One sheet for each refusal, some that are accepted, some for whose region a base or a range of bases is proposed, some for the strict verdict, and some with several faults for the report. `admit` answers the
-verdict:
+One sheet for each refusal, some that are accepted, some for whose region a base or a range of bases is proposed, some for the strict verdict, some with several faults for the report, and some in which the owner of an address is
+looked up. `admit` answers the verdict:
 
     rt check admit && target/bin/admit < samples/19-alignment-zero.sheet
 
 It takes up to 65,536 bytes and refuses by 3 what is longer: `accepted-largest-lists`, `accepted-6000-pages`, `accepted-8192-directives` and `03-8193-directives`, whose answers beside them are those of the library's
-call and of the examples in Rust and in C. The verdict accepts 35 to 38 and 50; it is the call beside them that is refused (`lent` is in bytes). It accepts the sheets `base-..` and `range-..` too. The call
-beside them checks a base or a range, and `answered` stands in front of the number of its answer. Of a base: 1 valid, 2 unaligned, 3 below the minimum, 4 above the maximum, the first that applies. Of a range: 1 always,
-2 never, 3 sometimes. `strict_verdict` asks for a context for each bit of a region's mask besides; the examples make it with `--strict`. `report` tells of all faulty rows: `reported 2 of 5` says how many rows are
+call and of the examples in Rust and in C. The verdict accepts 35 to 38 and 50; it is the call beside them that is refused (`lent` is in bytes). It accepts the sheets `base-..` and `range-..` too, and those of
+`region-..` but for `region-of-20-first`. The call beside them checks a base or a range, or looks up an address, and `answered` stands in front of the number of its answer. Of a base: 1 valid, 2 unaligned, 3 below the minimum, 4 above the
+maximum, the first that applies. Of a range: 1 always, 2 never, 3 sometimes. Of an address (`region_of`): the row of the region that owns it, 0 where there is none. `region_index` makes an index of a mask's regions: `indexed 3` says how many they
+are, and behind it stand start, size and row of each. `strict_verdict` asks for a context for each bit of a region's mask besides; the examples make it with `--strict`. `report` tells of all faulty rows: `reported 2 of 5` says how many rows are
 faulty, and of how many, and behind it stands the refusal of each with its row; 15 and 34, which a report tells of the sheet as a whole, have row 0. The example `report` of the Rust crate puts it into words. Of what it
 reports the first is the verdict's refusal, but in `report-no-platform`, where that is 15. `docs/SHEET.md` says how a sheet is written, when a base is valid, what is said
-of a range and what is reported, `docs/REFUSALS.md` what each refusal means and how to mend it. `tools/sheets.py --samples` writes this folder, and `tools/sheets.py --check` holds it to the samples and the lines of its list.
+of a range, who owns an address and what is reported, `docs/REFUSALS.md` what each refusal means and how to mend it. `tools/sheets.py --samples` writes this folder, and `tools/sheets.py --check` holds it to the samples and the lines of its list.
 
 | file | call | answer | what it shows |
 |---|---|---|---|
@@ -909,6 +944,25 @@ def wrong_reports():
             yield f"{sample.name}: {sample.line}; the model reports {reported}"
 
 
+def wrong_owners():
+    """A message for each address whose owner is another by the words of the model's index than by its full reading: at the start, the last byte and the end of each region, and
+    below it, on accepted sheets of few rows."""
+    for sample in SAMPLES:
+        said, *counts = sample.line.split()
+        if said != "accepted" or sum(map(int, counts)) > 100:
+            continue
+        s = sample.bytes()
+        _, kept = model.admitted(s)
+        places = {place for _, _, gpa, size, *_ in kept.regions for place in (gpa - 1, gpa, gpa + size - 1, gpa + size)} | {0, 2**64 - 1}
+        for mask in sorted({1, 3} | {mask for _, mask, *_ in kept.regions}):
+            indexed = sorted(model.owning(s, mask))
+            words = b"".join(number.to_bytes(8, "little") for region in indexed for number in region)
+            for gpa in sorted(places - {-1}):
+                owner = model.line(s, f"region_of mask {mask} gpa {gpa}")
+                if model.line(words, f"region_in gpa {gpa}") != owner:
+                    yield f"{sample.name}: mask {mask}, address {gpa}: {owner} by a full reading, another by the index"
+
+
 def wrong_names():
     """A message for each name that is given twice, and for each refusal that the folder does not show."""
     for names in [sample.name for sample in SAMPLES], [shown.file for shown in SHOWN]:
@@ -928,7 +982,7 @@ def wrong_files(folder, files, parts, mode):
 
 
 def check():
-    wrong = [*wrong_lines(), *wrong_reports(), *wrong_names()]
+    wrong = [*wrong_lines(), *wrong_reports(), *wrong_owners(), *wrong_names()]
     wrong += wrong_files(CRATE, gate_files(), ("data/*", "args", "stdout"), "--gate")
     wrong += wrong_files(FOLDER, sample_files(), ("*",), "--samples")
     for message in wrong:
