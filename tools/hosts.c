@@ -1,6 +1,7 @@
 /* Holds libigvm.a to what include/igvm.h says beside the proved contracts: calls and their siblings agree, on several threads at once, within IGVM_STACK_BYTES of
  * stack, the strict verdict is the verdict but for a bit of a region's mask that no context has, of all that a report tells the first is the verdict's refusal, a base check
- * answers one of the four, a range of bases one of the three and as the base check at its ends, and lent bytes that overlap the sheet get what others get, but in a report. The arguments are files of sheets. It writes the stack that each call
+ * answers one of the four, a range of bases one of the three and as the base check at its ends, the owner of an address is by the sheet and by an index what a full reading of the
+ * sheet finds, and lent bytes that overlap the sheet get what others get, but in a report. The arguments are files of sheets. It writes the stack that each call
  * takes on four images made here; the last line is `N sheets, S bytes of stack`, the most that any call took. */
 #define _GNU_SOURCE
 #include <pthread.h>
@@ -15,6 +16,8 @@
 #define STACK ((size_t)1 << 20)
 #define WORDS ((size_t)IGVM_REGION_BYTES * IGVM_MAX_INITIALIZATION_ROWS)
 #define ROW_WORDS ((size_t)8 * IGVM_MAX_ROWS)
+#define INDEX_REGION ((size_t)8 * IGVM_REGION_INDEX_WORDS)
+#define INDEX_WORDS ((size_t)8 * IGVM_MAX_REGION_INDEX_WORDS)
 #define PAINT 0xA5
 
 /* On an image that names few areas, and has no faulty row, every call takes less stack than this. */
@@ -244,6 +247,108 @@ static void relocations(const char *file, const uint8_t *sheet, size_t n, uint32
     }
 }
 
+/* A region: start, size, and row in the sheet. */
+struct region {
+    uint64_t start, size, row;
+};
+
+/* The regions of both kinds in an accepted sheet whose mask holds every bit of the mask, in row order. Returns how many. */
+static size_t read_regions(const uint8_t *sheet, uint32_t mask, struct region *regions) {
+    uint64_t rows = field(sheet, 8, 2) + field(sheet, 10, 2) + field(sheet, 12, 2);
+    size_t at = 16 + 8 * rows, found = 0;
+    for (uint64_t k = 1; k <= rows; at += field(sheet, 12 + 8 * k, 4), k++) {
+        uint64_t kind = field(sheet, 8 + 8 * k, 4);
+        if ((kind != 18 && kind != 19) || (field(sheet, at, 4) & mask) != mask) continue;
+        /* Kind 18 has its alignment between mask and gpa. */
+        size_t gpa = at + (kind == 18 ? 12 : 4);
+        regions[found++] = (struct region){field(sheet, gpa, 8), field(sheet, gpa + 8, 8), k};
+    }
+    return found;
+}
+
+/* The row of the region that holds the address, or 0. Every region is looked at. */
+static uint64_t owner_in(const struct region *regions, size_t count, uint64_t gpa) {
+    uint64_t row = 0;
+    for (size_t k = 0; k < count; k++)
+        if (regions[k].start <= gpa && gpa - regions[k].start < regions[k].size) row = regions[k].row;
+    return row;
+}
+
+/* The owner of an address by the sheet: these numbers, by the sibling too, if all are lent, and where they overlap the sheet. */
+static void owner(const char *file, const uint8_t *sheet, size_t n, uint32_t mask, uint64_t gpa, uint8_t *overlapping, const uint64_t *expected) {
+    uint8_t numbers[8 * IGVM_CHECK_NUMBERS + 1];
+    memset(numbers, PAINT, sizeof numbers);
+    for (uint32_t k = 0; k < IGVM_CHECK_NUMBERS; k++) hold(igvm_region_of(sheet, n, mask, gpa, k) == expected[k], file, "another owner of an address than by a full reading");
+    hold(igvm_region_of(sheet, n, mask, gpa, IGVM_CHECK_NUMBERS) == 0, file, "an owner has a number too many");
+    hold(igvm_region_of_numbers(sheet, n, mask, gpa, numbers, 8 * IGVM_CHECK_NUMBERS - 1) == expected[IGVM_NUMBER], file, "the sibling returns another number");
+    hold_painted(file, numbers, 0, sizeof numbers, "the sibling puts numbers where too few words are lent");
+    hold_numbers(file, numbers, IGVM_CHECK_NUMBERS, igvm_region_of_numbers(sheet, n, mask, gpa, numbers, sizeof numbers), expected);
+    memcpy(overlapping, sheet, n);
+    hold(igvm_region_of_numbers(overlapping, n, mask, gpa, overlapping, WORDS) == expected[IGVM_NUMBER] && memcmp(overlapping, numbers, 8 * IGVM_CHECK_NUMBERS) == 0, file,
+         "another owner where the numbers overlap the sheet");
+}
+
+/* An index in so many lent bytes: these numbers, by the sibling too. Bytes behind the words, and all of them in a refusal, are as they were. */
+static void lent_index(const char *file, const uint8_t *sheet, size_t n, uint32_t mask, uint8_t *words, size_t lent, const uint64_t *expected) {
+    uint8_t numbers[8 * IGVM_CHECK_NUMBERS + 1], again[INDEX_WORDS + 1];
+    memset(numbers, PAINT, sizeof numbers);
+    memset(words, PAINT, INDEX_WORDS + 1);
+    memset(again, PAINT, sizeof again);
+    for (uint32_t k = 0; k < IGVM_CHECK_NUMBERS; k++) hold(igvm_region_index(sheet, n, mask, words, lent, k) == expected[k], file, "an index has another number");
+    hold(igvm_region_index(sheet, n, mask, words, lent, IGVM_CHECK_NUMBERS) == 0, file, "an index has a number too many");
+    hold(igvm_region_index_numbers(sheet, n, mask, again, lent, numbers, 8 * IGVM_CHECK_NUMBERS - 1) == expected[IGVM_NUMBER], file, "the sibling returns another number");
+    hold_painted(file, numbers, 0, sizeof numbers, "the sibling puts numbers where too few words are lent");
+    hold(memcmp(words, again, sizeof again) == 0, file, "the sibling puts other words where it puts no numbers");
+    memset(again, PAINT, sizeof again);
+    hold_numbers(file, numbers, IGVM_CHECK_NUMBERS, igvm_region_index_numbers(sheet, n, mask, again, lent, numbers, sizeof numbers), expected);
+    hold(memcmp(words, again, sizeof again) == 0, file, "the sibling puts other words");
+    hold_painted(file, words, INDEX_REGION * expected[IGVM_COUNT], INDEX_WORDS + 1, "an index changes bytes behind its words");
+}
+
+/* The index has the regions that the sheet has, each start above the one before. */
+static void hold_index(const char *file, const uint8_t *words, const struct region *regions, size_t count) {
+    for (size_t k = 0; k < count; k++) {
+        struct region region = {word(words, 3 * k), word(words, 3 * k + 1), word(words, 3 * k + 2)};
+        size_t same = 0;
+        for (size_t i = 0; i < count; i++) same += memcmp(&region, regions + i, sizeof region) == 0;
+        hold(same == 1, file, "an index has a region that the sheet has not");
+        hold(k == 0 || word(words, 3 * k - 3) < region.start, file, "an index is not in the order of the starts");
+    }
+}
+
+/* Owners of addresses: at the start, the last byte and the end of each region, below it, and at the ends of all addresses, by the sheet and by the index. */
+static void owners(const char *file, const uint8_t *sheet, size_t n, uint32_t mask, uint8_t *overlapping) {
+    uint8_t words[INDEX_WORDS + 1], unused[INDEX_WORDS + 1];
+    struct region regions[IGVM_MAX_INITIALIZATION_ROWS];
+    uint64_t expected[IGVM_CHECK_NUMBERS] = {igvm_verdict(sheet, n, 0), igvm_verdict(sheet, n, 1), igvm_verdict(sheet, n, 2)};
+    if (expected[IGVM_NUMBER] == IGVM_ACCEPTED && mask == 0) expected[IGVM_NUMBER] = IGVM_ERROR_QUERY_MASK_ZERO;
+    if (expected[IGVM_NUMBER] != IGVM_ACCEPTED) {
+        owner(file, sheet, n, mask, 0, overlapping, expected);
+        lent_index(file, sheet, n, mask, words, INDEX_WORDS, expected);
+        lent_index(file, sheet, n, mask, words, 0, expected);
+        return;
+    }
+    size_t count = read_regions(sheet, mask, regions), filled = INDEX_REGION * count;
+    expected[IGVM_COUNT] = count;
+    lent_index(file, sheet, n, mask, words, INDEX_WORDS + 1, expected);
+    hold_index(file, words, regions, count);
+    lent_index(file, sheet, n, mask, unused, filled, expected);
+    hold(memcmp(words, unused, sizeof words) == 0, file, "another index in just enough words");
+    memcpy(overlapping, sheet, n);
+    hold(igvm_region_index(overlapping, n, mask, overlapping, WORDS, IGVM_COUNT) == count && memcmp(words, overlapping, filled) == 0, file, "another index where it overlaps the sheet");
+    uint64_t too_few[IGVM_CHECK_NUMBERS] = {IGVM_ERROR_TOO_FEW_WORDS_LENT};
+    if (count > 0) lent_index(file, sheet, n, mask, unused, filled - 1, too_few);
+    for (size_t k = 0; k <= count; k++) {
+        uint64_t start = k < count ? regions[k].start : 1, size = k < count ? regions[k].size : 0;
+        uint64_t places[] = {start - 1, start, start + size - 1, start + size, UINT64_MAX};
+        for (size_t i = 0; i < sizeof places / sizeof *places; i++) {
+            expected[IGVM_REGION_ROW] = owner_in(regions, count, places[i]);
+            owner(file, sheet, n, mask, places[i], overlapping, expected);
+            hold(igvm_region_in(words, filled, places[i]) == expected[IGVM_REGION_ROW], file, "another owner by the index than by a full reading");
+        }
+    }
+}
+
 static void *all_sheets(void *nothing) {
     for (int i = 0; i < count; i++) {
         size_t n;
@@ -251,7 +356,10 @@ static void *all_sheets(void *nothing) {
         hold(overlapping && words, files[i], "no memory");
         verdicts(files[i], sheet, n, overlapping);
         report(files[i], sheet, n, words, words + ROW_WORDS + 1);
-        for (uint32_t mask = 0; mask < 4; mask++) relocations(files[i], sheet, n, mask, overlapping);
+        for (uint32_t mask = 0; mask < 4; mask++) {
+            relocations(files[i], sheet, n, mask, overlapping);
+            owners(files[i], sheet, n, mask, overlapping);
+        }
         free(sheet);
         free(overlapping);
         free(words);
@@ -259,7 +367,7 @@ static void *all_sheets(void *nothing) {
     return nothing;
 }
 
-/* Each call on a sheet, with as little of the stack as can be in use besides, and the two on a region's words. */
+/* Each call on a sheet, with as little of the stack as can be in use besides, and the three on words. */
 static uint8_t numbers_lent[8 * IGVM_RELOCATIONS_NUMBERS], words_lent[ROW_WORDS];
 
 static void call_0(const uint8_t *s, size_t n) { igvm_verdict(s, n, 0); }
@@ -278,6 +386,11 @@ static void call_12(const uint8_t *s, size_t n) { igvm_contains(s, n, 1, 0, 0, 0
 static void call_13(const uint8_t *s, size_t n) { igvm_contains_numbers(s, n, 1, 0, 0, numbers_lent, sizeof numbers_lent); }
 static void call_14(const uint8_t *s, size_t n) { igvm_region_base_valid(s, n, 0); }
 static void call_15(const uint8_t *s, size_t n) { igvm_region_contains(s, n, 0); }
+static void call_16(const uint8_t *s, size_t n) { igvm_region_of(s, n, 1, 0, 0); }
+static void call_17(const uint8_t *s, size_t n) { igvm_region_of_numbers(s, n, 1, 0, numbers_lent, sizeof numbers_lent); }
+static void call_18(const uint8_t *s, size_t n) { igvm_region_index(s, n, 1, words_lent, sizeof words_lent, 0); }
+static void call_19(const uint8_t *s, size_t n) { igvm_region_index_numbers(s, n, 1, words_lent, sizeof words_lent, numbers_lent, sizeof numbers_lent); }
+static void call_20(const uint8_t *s, size_t n) { igvm_region_in(s, n, UINT64_MAX); }
 
 static const struct {
     const char *name;
@@ -299,6 +412,11 @@ static const struct {
     {"igvm_contains_numbers", call_13},
     {"igvm_region_base_valid", call_14},
     {"igvm_region_contains", call_15},
+    {"igvm_region_of", call_16},
+    {"igvm_region_of_numbers", call_17},
+    {"igvm_region_index", call_18},
+    {"igvm_region_index_numbers", call_19},
+    {"igvm_region_in", call_20},
 };
 #define CALLS (sizeof calls / sizeof *calls)
 
