@@ -1,7 +1,7 @@
 #!/usr/bin/env python3
 """Names and numbers of refusals: tools/model.py, include/igvm.h, the Rust crate, docs/REFUSALS.md and samples must agree; those of the answers of
 base checks and of ranges: library, header, crate, README.md, docs/SHEET.md and samples; the calls: header, crate and README.md; the numbers of a report:
-header, crate, README.md and docs/SHEET.md; the limits of include/igvm.h are those of SheetHead; and header, crate and docs/CHANGELOG.md have one version."""
+header, crate, README.md and docs/SHEET.md; the words of an index: header, crate, pages; the limits of include/igvm.h are those of SheetHead; and header, crate and docs/CHANGELOG.md have one version."""
 import pathlib
 import re
 import sys
@@ -79,7 +79,7 @@ listed = set(re.findall(r"^\| `(igvm_\w+)` \|", read("README.md"), re.M))
 siblings = {name for name in listed if f"{name}_numbers" in declared}
 if declared != listed | {f"{name}_numbers" for name in siblings}:
     wrong.append("the calls in the table of README.md are not those of include/igvm.h")
-count = {5: "five", 6: "six", 7: "seven", 8: "eight"}[len(siblings)]
+count = {7: "seven", 8: "eight", 9: "nine", 10: "ten"}[len(siblings)]
 if f"\n| each of the {count} with `_numbers` |" not in read("README.md"):
     wrong.append(f"README.md does not say that {count} calls have a sibling")
 
@@ -99,6 +99,15 @@ in_page = read("docs/SHEET.md").partition("\n## Words of a report\n")[2].partiti
 if texts != {int(n): text for n, text in re.findall(r"^\| (\d) \| ([a-z ]+)[:|,]", in_page, re.M)}:
     wrong.append("the numbers of a report in docs/SHEET.md are not those of include/igvm.h")
 
+# The words of an index: start of the crate's IndexedRegion is the first word of three.
+crate = read("bindings/rust/src/region_index.rs")
+fields = re.findall(r"^    pub (\w+): ", re.search(r"^pub struct IndexedRegion \{\n(.*?)^\}", crate, re.M | re.S).group(1), re.M)
+in_page = read("docs/SHEET.md").partition("\n## Words of an index\n")[2].partition("\n## ")[0]
+if fields != [what for k, at, what in re.findall(r"^\| (\d) \| 24j(?: \+ (\d+))? \| (\w+) \|", in_page, re.M) if int(at or 0) == 8 * int(k)]:
+    wrong.append("the words of an index in docs/SHEET.md are not the fields of the crate's IndexedRegion")
+if f"IGVM_REGION_INDEX_WORDS = {len(fields)}," not in header or f"REGION_INDEX_BYTES: usize = {8 * len(fields)};" not in crate:
+    wrong.append("a region of an index has other words in include/igvm.h, or bytes in the crate, than fields")
+
 limits = dict(re.findall(r"pub const (\w+): usize = (\d+);", read("crates/sheet/src/lib.rt")))
 for name in ("PLATFORM_ROWS", "INITIALIZATION_ROWS", "DIRECTIVE_ROWS", "SHEET_BYTES"):
     if f"IGVM_MAX_{name} = {limits.get(name)}," not in header:
@@ -107,6 +116,10 @@ most_rows = sum(int(limits[f"{name}_ROWS"]) for name in ("PLATFORM", "INITIALIZA
 for path in ("bindings/rust/src/report.rs", "bindings/rust/src/refusal.rs", "docs/REFUSALS.md", "docs/SHEET.md"):
     if f"{8 * most_rows:,}" not in read(path):
         wrong.append(f"{path} does not say that {8 * most_rows:,} bytes are enough for a report")
+index_bytes = f"{8 * len(fields) * int(limits['INITIALIZATION_ROWS']):,}"
+for path in ("include/igvm.h", "bindings/rust/src/region_index.rs", "bindings/rust/src/refusal.rs", "docs/REFUSALS.md", "docs/SHEET.md"):
+    if index_bytes not in read(path):
+        wrong.append(f"{path} does not say that {index_bytes} bytes are enough for an index")
 version = ".".join(re.findall(r"IGVM_VERSION_\w+ = (\d+)", header))
 if f'\nversion = "{version}"\n' not in read("bindings/rust/Cargo.toml"):
     wrong.append(f"{version} of include/igvm.h is not the crate's version")
@@ -116,5 +129,5 @@ for line in wrong:
     print(line)
 if wrong:
     sys.exit(1)
-print(f"{len(rust)} refusals, {len(declared)} calls, {checks} answers of the base check, {ranges} of the range check, {len(report)} numbers of a report, {len(limits)} limits, "
+print(f"{len(rust)} refusals, {len(declared)} calls, {checks} answers of the base check, {ranges} of the range check, {len(report)} numbers of a report, {len(fields)} words of an index, {len(limits)} limits, "
       f"version {version}: header, crate, pages and samples agree")
