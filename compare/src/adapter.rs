@@ -5,7 +5,7 @@ use crate::compare::{Call, Difference, Rust};
 use crate::random::Random;
 use crate::run::{on_threads, Run};
 use crate::sheet::{fields_length, hex, kinds, Image, Row};
-use crate::{generate, large, paper, plan, report, short, shrink};
+use crate::{generate, large, owner, paper, plan, report, short, shrink};
 use calls::Calls;
 use oracle::Headers;
 
@@ -113,7 +113,7 @@ impl<'a> Seen<'a> {
         self.answers(random, &sheet, &Rust::of_headers(Some(headers)))
     }
 
-    /// The two verdicts, the report and two region lists, by the calls and by crate sapyullu.
+    /// The two verdicts, the report and two region lists, and of either mask an address and the index, by the calls and by crate sapyullu.
     fn answers(&mut self, random: &mut Random, sheet: &[u8], rust: &Rust) -> Result<(), String> {
         let text = |difference: Difference| shrink::text(&difference);
         let number = self.run.verdict(sheet, rust, random.next()).map_err(text)?;
@@ -126,10 +126,12 @@ impl<'a> Seen<'a> {
         let lent = rust.headers.as_ref().map_or(0, |headers| 64 * headers.initializations.len());
         for mask in [random.pick(&masks), random.pick(&masks)] {
             let list = Call::Relocations { mask, lent };
-            self.run.queries(sheet, rust, &[list], random.next()).map_err(text)?;
+            let index = Call::RegionIndex { mask, lent: owner::INDEX };
+            self.run.queries(sheet, rust, &[list, index], random.next()).map_err(text)?;
             if let Some(found) = rust.relocated(mask)? {
                 self.lists += host::same_list(random, sheet, mask, &found)?;
             }
+            host::same_owners(random, sheet, mask)?;
         }
         Ok(())
     }
@@ -192,9 +194,9 @@ fn as_adapted(row: &mut Row) {
 mod host {
     use super::{made, report_by_paper};
     use crate::random::Random;
-    use crate::{paper, plan, ranges, report};
+    use crate::{owner, paper, plan, ranges, report};
     use oracle::{IgvmRelocatableRegion, Relocated};
-    use sapyullu::{BaseCheck, Counts, List, PageTableRegion, Place, Refusal, Reported};
+    use sapyullu::{BaseCheck, Counts, List, PageTableRegion, Place, Refusal, RegionIndex, Reported};
 
     /// The verdict and the strict verdict are document 01's.
     pub fn same_verdicts(sheet: &[u8]) -> Result<(), String> {
@@ -257,6 +259,39 @@ mod host {
             Some(Ok(_)) if words.is_empty() => Ok(()),
             other => differ(format!("sapyullu::report_into says {other:?} where a byte less is lent than the words take")),
         }
+    }
+
+    /// Which region of an accepted sheet has an address is document 02's, by `region_of`, by a `RegionIndex` and by `region_in` on the bytes that `region_index_into` fills; so
+    /// are the regions of either, or all are refused by 35. With a byte more that one is left as it was, with a byte less it is 37.
+    pub fn same_owners(random: &mut Random, sheet: &[u8], mask: u32) -> Result<(), String> {
+        let gpa = random.pick(&plan::region_addresses(sheet));
+        let number = |refusal: Refusal| refusal.error.number();
+        let by_paper = match paper::region_of(sheet, mask, gpa) {
+            [0, .., row] => Ok(Some(row).filter(|row| *row != 0)),
+            [number, ..] => Err(number),
+        };
+        let index = owner::index(&paper::CALLS, sheet, mask);
+        let by_sheet = sapyullu::region_of(sheet, mask, gpa).map_err(number);
+        let made = RegionIndex::new(sheet, mask).map_err(number);
+        let by_index = made.as_ref().map(|made| made.region_of(gpa)).map_err(|number| *number);
+        let regions: Vec<[u64; 3]> =
+            made.iter().flat_map(|made| made.regions().map(|region| [region.start, region.size, region.row])).collect();
+        let mut lent = [&index[..], &[0xA5]].concat();
+        lent[..index.len()].fill(0x5A);
+        let filled = sapyullu::region_index_into(sheet, mask, &mut lent).map_err(number);
+        let by_words = filled.map(|count| sapyullu::region_in(&lent[..24 * count], gpa));
+        let is_left = lent == [&index[..], &[0xA5]].concat();
+        let too_few = index.len().checked_sub(1).map(|less| sapyullu::region_index_into(sheet, mask, &mut lent[..less]).map_err(number));
+        if [by_sheet, by_index, by_words] != [by_paper; 3] || !is_left || too_few.is_some_and(|few| few != Err(37)) {
+            let said = format!("{by_sheet:?}, {by_index:?}, {by_words:?}, with a byte less {too_few:?}");
+            return Err(format!(
+                "sapyullu of address {gpa:#x}, mask {mask}: {said}, with {lent:?}; document 02 says {by_paper:?}, {index:?}"
+            ));
+        }
+        if !regions.iter().copied().eq(owner::entries(&index)) {
+            return Err(format!("sapyullu::RegionIndex of mask {mask} has {regions:x?}; document 02 says {index:?}"));
+        }
+        Ok(())
     }
 
     /// The list of a row and its index there.
@@ -346,5 +381,9 @@ mod host {
 
     pub fn same_list(_: &mut Random, _: &[u8], _: u32, _: &Relocated) -> Result<u64, String> {
         Ok(0)
+    }
+
+    pub fn same_owners(_: &mut Random, _: &[u8], _: u32) -> Result<(), String> {
+        Ok(())
     }
 }

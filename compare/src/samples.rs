@@ -4,7 +4,7 @@ use crate::compare::{check, Call, Extent, Rust};
 use crate::library::LIBRARY;
 use crate::random::Random;
 use crate::sheet::hex;
-use crate::{faulty, generate, large, line, paper, plain, plan, report, strict};
+use crate::{faulty, generate, large, line, owner, paper, plain, plan, report, strict};
 use calls::Calls;
 use std::fs;
 use std::path::Path;
@@ -34,17 +34,36 @@ pub fn replay(calls: &Calls, folder: &str) -> Result<(), String> {
     Ok(())
 }
 
-/// Random sheets in hexadecimal digits, each with its line by the verdict, by the strict one and by the report, for a comparison outside this program; one sheet
-/// of several faulty rows for four others, and one large one for 500.
+/// Random sheets in hexadecimal digits, each with its line by the verdict, by the strict one and by the report, and with the call and its line for an address and
+/// for an index, for a comparison outside this program; one sheet of several faulty rows for four others, and one large one for 500.
 pub fn emit(seed: u64, cases: u64) -> Result<(), String> {
     let sheets = (0..cases).map(|case| generate::sheet(&mut Random::new(seed, case)));
     let faulty = (0..cases / 4).map(|case| faulty::sheet(&mut Random::new(seed, case)));
     let large = (0..cases / 500).map(|case| large::sheet(&mut Random::new(seed, case)));
-    for sheet in sheets.chain(faulty).chain(large) {
+    for (case, sheet) in (0..).zip(sheets.chain(faulty).chain(large)) {
         let [verdict, strict] = [Call::Verdict, Call::StrictVerdict].map(|call| line(&paper::CALLS, call, &sheet));
-        println!("{} {verdict}; {strict}; {}", hex(&sheet), report_line(&sheet));
+        println!("{} {verdict}; {strict}; {}; {}", hex(&sheet), report_line(&sheet), owner_lines(&mut Random::new(seed, case), &sheet));
     }
     Ok(())
+}
+
+/// The lines of an address and of the index of a mask by document 01, each behind its call.
+fn owner_lines(random: &mut Random, sheet: &[u8]) -> String {
+    let (mask, gpa) = (random.pick(&plan::masks(sheet)), random.pick(&plan::region_addresses(sheet)));
+    let refused = |[number, row, detail, _]: [u64; 4]| format!("refused {number} row {row} detail {detail}");
+    let answered = match paper::region_of(sheet, mask, gpa) {
+        [0, .., row] => format!("answered {row}"),
+        numbers => refused(numbers),
+    };
+    let mut lent = [0; owner::INDEX];
+    let indexed = match paper::region_index(sheet, mask, &mut lent) {
+        [0, .., count] => {
+            let region = |[start, size, row]: [u64; 3]| format!(", {start} size {size} row {row}");
+            format!("indexed {count}{}", owner::entries(&lent).take(count as usize).map(region).collect::<String>())
+        }
+        numbers => refused(numbers),
+    };
+    format!("region_of mask {mask} gpa {gpa}: {answered}; region_index mask {mask}: {indexed}")
 }
 
 /// The line of a report by document 01: how many rows are faulty and of how many, the number and the row of each, and 15 and 34 with row 0 where they are told.
