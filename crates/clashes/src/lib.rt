@@ -5,7 +5,7 @@ ghost use Prim.Native.Nat.{_≤_};
 ghost use lib.ListN.{length};
 ghost use Rattle.masks.specs.Masks.{shares};
 ghost use Rattle.addresses.specs.Addresses.{meets};
-ghost use Rattle.clashes.specs.Clashes.{anyTablesShare, anyOverlap, anyTableHolds};
+ghost use Rattle.clashes.specs.Clashes.{anyTablesShare, anyTableHolds};
 use rules::Region;
 
 // Some of the first n regions is a page table, as r is, and shares a bit with it.

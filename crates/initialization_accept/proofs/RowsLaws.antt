@@ -1,5 +1,5 @@
 -- The pass over the initialization rows: what holds at a turn of its loop, and that a row which it accepts leads to the next turn.
-use Rattle.rows.{proofs.Kit.{_≡_, refl, sym, _∙_, Bool, true, false, cond, not, _&&_, _||_, List, none, some, ℕ, _+_, _-_, _*_, _≤_, _<_, arith, length, take, drop, set, getD, ltb, length-set, getD-set-same}, specs.Below.anyBelow, specs.Rows.{Rows, any, before}, proofs.Bools.or-false-parts, proofs.BelowLaws.any-more}
+use Rattle.rows.{proofs.Kit.{_≡_, refl, sym, _∙_, Bool, true, false, cond, _&&_, _||_, List, none, some, ℕ, _+_, _-_, _*_, _≤_, _<_, arith, length, take, drop, set, getD, ltb, length-set, getD-set-same}, specs.Below.anyBelow, specs.Rows.{Rows, any, before}, proofs.Bools.or-false-parts, proofs.BelowLaws.any-more}
 use Rattle.igvm_defs.{specs.declared.Arch.Arch, specs.Refusals.isFault, specs.Revision.isX64}
 use Rattle.sheet.{specs.declared.Cursor.Cursor, specs.Head.{headOf, bodiesAt}, specs.Table.{rowKind, bodyOf}, specs.Walk.ReadTo, proofs.Readable.{body-length, initialization-list}}
 use Rattle.sheet_reader.{specs.declared.SheetRow.SheetRow, specs.Reading.{readAt, cursorAfter}, proofs.ReaderLaws.{Found, list-found, room-row, body-found, read-after}}

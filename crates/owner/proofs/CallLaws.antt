@@ -1,15 +1,15 @@
 -- The answers of the two calls, by what the verdict has kept.
-use Rattle.rows.proofs.Kit.{_≡_, refl, sym, ap, _∙_, Bool, true, false, _≢_, List, ℕ, _*_, _/_, _≤_, _<_, arith, ltb, ltb-true, ltb-false, length, getD}
+use Rattle.rows.proofs.Kit.{_≡_, sym, ap, _∙_, Bool, true, false, _≢_, List, ℕ, _*_, _/_, _≤_, arith, ltb, length, getD}
 use Rattle.rows.specs.Below.{countBelow}
 use Rattle.masks.specs.Masks.{matches}
 use Rattle.igvm_defs.{specs.declared.Refusal.Refusal, specs.Refusals.{fault, noFault, noRefusal, refuse, isRefusal, inRow}, proofs.RefusalLaws.{orElse-first, orElse-later}}
 use Rattle.lent.specs.Lent.{wordsPut}
-use Rattle.sheet.{specs.Head.{limits, headOf}, proofs.Readable.readable-bounds}
+use Rattle.sheet.{specs.Head.{limits}}
 use Rattle.sheet_headers.{specs.Headers.sheetHeaders, proofs.HeaderLaws.sheet-counts}
-use Rattle.rules.{specs.Accepted.NotRefused, specs.Owner.{ownerOf, indexCount, indexWord}}
-use Rattle.answers.{specs.declared.Answered.Answered, specs.Verdict.verdictRefusal, specs.Relocations.{maskFault, queryRefusal, sheetInitializations}, specs.Owner.{regionOwnerOf, indexFault, indexRefusal, regionIndexOf, indexAfter}, proofs.AnswerLaws.{accepted-headers, accepted-readable}, proofs.OwnerLaws.{query-says, owner-refused, owner-given, index-stops, index-says, index-refused, index-given, refused-bytes}}
-use Rattle.by_start.specs.ByStart.{ByStart, ownedRow}
-use Rattle.initialization_check.specs.{Record.{regionsIn, HoldsRegions, HoldsRows}, declared.RelocRegions.RelocRegions}
+use Rattle.rules.{specs.Accepted.NotRefused, specs.Owner.{indexCount, indexWord}}
+use Rattle.answers.{specs.declared.Answered.Answered, specs.Verdict.verdictRefusal, specs.Relocations.{maskFault, queryRefusal}, specs.Owner.{regionOwnerOf, indexFault, indexRefusal, regionIndexOf, indexAfter}, proofs.AnswerLaws.{accepted-headers}, proofs.OwnerLaws.{query-says, owner-refused, owner-given, index-stops, index-says, index-refused, index-given, refused-bytes}}
+use Rattle.by_start.specs.ByStart.{ownedRow}
+use Rattle.initialization_check.specs.{Record.{regionsIn, HoldsRegions, HoldsRows}}
 use Rattle.keep.specs.Kept.{Kept}
 use Rattle.owner.proofs.OwnerLaws.{owner-found, count-found}
 

@@ -1,8 +1,7 @@
 -- What is looked up in the regions that the verdict has kept, in order of their starts, is what a reading of all rows finds.
-use Rattle.rows.{proofs.Kit.{_≡_, refl, sym, ap, _∙_, Bool, true, false, cond, _&&_, _≢_, _⊎_, inl, inr, and-false, List, Option, none, some, ℕ, _+_, _-_, _*_, _≤_, _<_, arith, eq-or-lt-of-le, eqb, eqb-true, eq-eqb, ltb, lt-ltb, le-ltb, length, getD}, specs.Below.{anyBelow, firstBelow, countBelow}, specs.Rows.{Rows, any, countOf}, proofs.Bools.{and-parts, and-both, not-both}, proofs.BelowLaws.{any-below, some-below, none-any, first-any, first-says, count-lt, count-none, count-same-tests, sum-split, sum-cong}}
+use Rattle.rows.{proofs.Kit.{_≡_, refl, sym, _∙_, Bool, true, false, cond, _&&_, _≢_, _⊎_, inl, inr, and-false, List, Option, none, some, ℕ, _+_, _-_, _*_, _≤_, _<_, arith, eq-or-lt-of-le, eqb, eqb-true, eq-eqb, ltb, lt-ltb, le-ltb, getD}, specs.Below.{anyBelow, firstBelow, countBelow}, specs.Rows.{any, countOf}, proofs.Bools.{and-parts, and-both}, proofs.BelowLaws.{some-below, none-any, first-any, first-says, count-lt, count-none, count-same-tests, sum-split}}
 use Rattle.masks.specs.Masks.{matches}
-use Rattle.addresses.specs.Addresses.{contains}
-use Rattle.rules.{specs.declared.Region.Region, specs.Headers.Headers, specs.Regions.{regionPasses}, specs.Accepted.NotRefused, specs.Sound.MatchingRegion, specs.Owner.{isOfMask, ownsAddress, numberOfRow, ownerOf, indexCount, startsBelow, byStart, indexWord}, proofs.RegionLaws.region-passes, proofs.SoundLaws.accepted-sound, proofs.OwnerLaws.{owner-once, owner-is, owner-none, starts-differ, by-start-is, start-word, size-word, row-word, count-one-most}}
+use Rattle.rules.{specs.declared.Region.Region, specs.Headers.Headers, specs.Regions.{regionPasses}, specs.Accepted.NotRefused, specs.Sound.MatchingRegion, specs.Owner.{isOfMask, ownsAddress, ownerOf, indexCount, startsBelow, indexWord}, proofs.RegionLaws.region-passes, proofs.SoundLaws.accepted-sound, proofs.OwnerLaws.{owner-once, owner-is, owner-none, starts-differ, by-start-is, start-word, size-word, row-word, count-one-most}}
 use Rattle.by_start.{specs.ByStart.{inOrder, ByStart, owned, ownedRow}, proofs.OrderLaws.count-any, proofs.OwnerLaws.ownsInPlace}
 use Rattle.initialization_check.{specs.declared.RelocRegions.RelocRegions, specs.Record.{entry, regionsIn, HoldsRegions, HoldsRows}}
 

@@ -1,5 +1,5 @@
 -- The lookup in words: the ways in which it ends, and how it goes on.
-use Rattle.rows.{proofs.Kit.{_≡_, refl, Bool, true, false, List, ℕ, _+_, _/_, _≤_, _<_, arith, decLt, ltb, lt-ltb, le-ltb, length}, specs.Below.firstBelow, proofs.Bools.{or-right, or-both-false}, proofs.BelowLaws.{first-none, first-at}}
+use Rattle.rows.{proofs.Kit.{_≡_, Bool, true, false, List, ℕ, _+_, _/_, _≤_, _<_, arith, decLt, ltb, lt-ltb, le-ltb, length}, proofs.Bools.{or-right, or-both-false}, proofs.BelowLaws.{first-none, first-at}}
 use Rattle.addresses.specs.Addresses.{contains}
 use Rattle.answers.specs.Owner.{startIn, sizeIn, rowIn, endsAt, regionIn}
 

@@ -1,7 +1,7 @@
 -- Words of a region: each below 2^64, and read back from a part of the lent bytes.
 use native.Mathlib.Nat.{mul-le-mul-left}
 use lib.Seq.{getD-drop}
-use Rattle.rows.{proofs.Kit.{ℕ, zero, suc, _+_, _*_, _/_, _%_, _^_, _≤_, _<_, pow-succ', _≡_, refl, sym, ap, _∙_, Bool, true, false, cond, inl, inr, List, [], _∷_, Option, none, some, take, drop, length, getD, getD-take, List·getD-eq-default, length-take, length-drop, eqb, eqb-true, eqb-false, ltb, decLt, arith, not-suc-le-zero}, specs.Below.{sumBelow, countBelow, nthBelow}, specs.Rows.{Rows, rowAt}, proofs.Bools.which, proofs.BelowLaws.{sum-cong, nth-says}}
+use Rattle.rows.{proofs.Kit.{ℕ, zero, suc, _+_, _*_, _/_, _%_, _^_, _≤_, _<_, pow-succ', _≡_, ap, _∙_, Bool, true, false, cond, List, Option, none, some, take, drop, getD, getD-take, List·getD-eq-default, length-take, eqb, decLt, arith}, specs.Below.{sumBelow, nthBelow}, specs.Rows.{Rows, rowAt}, proofs.Bools.which, proofs.BelowLaws.{sum-cong}}
 use Rattle.le.specs.Le.{byteAt, leAt}
 use Rattle.igvm_defs.{specs.Vtls.vtlOf, proofs.VtlLaws.vtl-below}
 use Rattle.initialization_header.{specs.declared.IgvmInitializationHeader.IgvmInitializationHeader, specs.Initializations.{initializationOf, guestPolicyOf, ccaPolicyOf, relocatableRegionOf, pageTableRelocationRegionOf}}

@@ -1,4 +1,4 @@
-use Rattle.rows.{proofs.Kit.{_≡_, _∙_, needs, arith, now}, specs.Rows.before}
+use Rattle.rows.{proofs.Kit.{_≡_, _∙_, needs}, specs.Rows.before}
 use Rattle.igvm_defs.specs.Refusals.{orFault}
 use Rattle.rules.specs.Initializations.{validateInitialization, initializationFault}
 use Rattle.by_start.proofs.OrderedLaws.{search-tells}

@@ -1,4 +1,4 @@
-use Rattle.rows.proofs.Kit.{now, arith, needs}
+use Rattle.rows.proofs.Kit.{arith, needs}
 use Rattle.sheet.{specs.Head.limits, proofs.Readable.{start-says, started-bounds}}
 use Rattle.owner.proofs.index_many.Statement.{statement}
 use Rattle.owner.proofs.index_many.Tie as tie

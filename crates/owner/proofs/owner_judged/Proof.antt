@@ -1,6 +1,6 @@
-use Rattle.rows.proofs.Kit.{needs, arith, refl, ap, sym, _∙_, _≡_, _≤_, _<_, false, length, now}
+use Rattle.rows.proofs.Kit.{needs, arith, refl, ap, sym, _∙_, _≡_, false, length, now}
 use Rattle.igvm_defs.specs.Refusals.{isRefusal, inRow}
-use Rattle.sheet.specs.Head.{limits, headOf}
+use Rattle.sheet.specs.Head.{limits}
 use Rattle.answers.specs.{declared.Verdict.Verdict, Verdict.{verdictRefusal, verdictOf}, Relocations.maskFault}
 use Rattle.validation.proofs.KeptLaws.{kept-few}
 use Rattle.owner.proofs.{CallLaws.{owner-verdict, owner-zero, owner-answer}, owner_judged.Statement.statement}

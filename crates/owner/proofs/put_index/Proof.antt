@@ -1,5 +1,5 @@
-use Rattle.rows.proofs.Kit.{needs, arith, sym, _∙_, _≡_, _-_, _<_, true, now}
-use Rattle.by_start.{proofs.WalkLaws.next-within, proofs.OwnerLaws.{along-first, along-there}}
+use Rattle.rows.proofs.Kit.{needs, arith, sym, _∙_, _-_, _<_, now}
+use Rattle.by_start.{proofs.WalkLaws.next-within, proofs.OwnerLaws.{along-there}}
 use Rattle.owner.proofs.{FillLaws.{Filled, filled-none, fill-room, fill-small, fill-on, filled-all}, put_index.Statement.statement}
 use Rattle.owner.proofs.put_index.Tie as tie
 

@@ -1,4 +1,4 @@
-use Rattle.rows.proofs.Kit.{needs, arith, refl, _∙_, _≡_, _*_, _+_, _≤_, true, length, now, not-true, not-false}
+use Rattle.rows.proofs.Kit.{arith, _≡_, _*_, _+_, _≤_, true, length, now, not-true, not-false}
 use Rattle.lent.proofs.LentLaws.{word-length}
 use Rattle.owner.proofs.put_region.Statement.{statement}
 use Rattle.owner.proofs.put_region.Tie as tie
