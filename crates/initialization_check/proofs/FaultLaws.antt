@@ -1,11 +1,11 @@
 -- What is wrong with an initialization header, kind by kind.
-use Rattle.rows.{proofs.Kit.{_≡_, refl, ap, Bool, true, false, not, cond, _&&_, Option, none, some, ℕ, _+_, _≤_, eqb, ltb-false}, specs.Rows.{Rows, any}}
+use Rattle.rows.{proofs.Kit.{_≡_, refl, ap, Bool, true, false, not, cond, _&&_, Option, none, some, ℕ, eqb}, specs.Rows.{Rows, any}}
 use Rattle.igvm_defs.{specs.declared.Arch.Arch, specs.declared.Fault.Fault, specs.Refusals.{fault, noFault, refuse, isFault, orFault}}
 use Rattle.masks.{specs.Masks.{individualMasks, firstMask}, proofs.MaskLaws.first-mask-same}
 use Rattle.addresses.specs.Addresses.{endsBeyond}
 use Rattle.platform_header.specs.declared.IgvmPlatformHeader.{IgvmPlatformHeader}
 use Rattle.initialization_header.{specs.declared.IgvmInitializationHeader.IgvmInitializationHeader, specs.Fields.kindNumber}
-use Rattle.rules.{specs.Platforms.lastIsCca, specs.declared.Region.Region, specs.Regions.{regionOf, regionPasses, tablesShare, overlap}, specs.Initializations.{validateInitialization, wrongPolicyArch, bitWithoutCca, withoutCca, refuseBit, initializationFault, ownInitializationFault}, proofs.FaultLaws.{refuse-none, or-none}, proofs.Acceptance.initialization-says, proofs.RegionLaws.region-fails}
+use Rattle.rules.{specs.Platforms.lastIsCca, specs.declared.Region.Region, specs.Regions.{regionOf, regionPasses, tablesShare, overlap}, specs.Initializations.{validateInitialization, wrongPolicyArch, bitWithoutCca, withoutCca, refuseBit, initializationFault}}
 use Rattle.platform_check.{specs.declared.Platforms.Platforms, specs.Record.{HoldsPlatforms, lastTypeIsCca}, proofs.RecordLaws.holds-cca}
 use Rattle.initialization_check.specs.Record.{policyFault}
 
@@ -50,14 +50,3 @@ pub holds-bit : (r : Platforms) (xs : Rows IgvmPlatformHeader) (mask : ℕ) → 
     → firstMask (λ bit. not (lastTypeIsCca r bit)) (individualMasks mask) ≡ bitWithoutCca xs mask
 unfolding bitWithoutCca
 holds-bit r xs mask held = first-mask-same (λ bit. not (lastTypeIsCca r bit)) (λ bit. not (lastIsCca xs bit)) (λ bit. ap not (holds-cca r xs bit held)) (individualMasks mask)
-
--- a region that stands without a fault ends below 2^64
-pub region-ends : (earlier : Rows IgvmInitializationHeader) (h : IgvmInitializationHeader) (r : Region) (arch : Arch) (platforms : Rows IgvmPlatformHeader)
-    → regionOf h ≡ some r → isFault (initializationFault arch platforms earlier h) ≡ false → r .gpa + r .size ≤ 18446744073709551615
-unfolding endsBeyond ownInitializationFault
-region-ends earlier h r arch platforms o e =
-    let (_, r24) = or-none (validateInitialization h) _ .0 (initialization-says arch platforms earlier h .0 e .0) in
-    let (_, r27) = refuse-none (wrongPolicyArch arch h) 23 17 _ .0 r24 in
-    let (_, r28) = refuse-none (regionPasses (λ r. eqb (r .size) 0) h) 26 0 _ .0 r27 in
-    let (c28, _) = refuse-none (regionPasses (λ r. endsBeyond (r .gpa) (r .size)) h) 27 0 noFault .0 r28 in
-    ltb-false 18446744073709551615 (r .gpa + r .size) (region-fails (λ r. endsBeyond (r .gpa) (r .size)) h .0 c28 r o)

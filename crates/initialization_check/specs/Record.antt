@@ -1,7 +1,7 @@
 -- The record of the regions read so far, and the rows that it stands for, in whatever order it keeps them.
 use Prim.Native.Nat.{ℕ, _+_, _<_, _≤_}
 use mathlib.Core.Path.{_≡_}
-use mathlib.Core.Bool.{Bool, true, false, cond}
+use mathlib.Core.Bool.{Bool, false, cond}
 use mathlib.Core.Option.{none, some}
 use mathlib.Core.List.{List}
 use lib.ListN.{getD, set}
@@ -10,7 +10,7 @@ use Rattle.rows.specs.Below.{anyBelow, countBelow}
 use Rattle.rows.specs.Rows.{Rows, any, before, countOf}
 use Rattle.igvm_defs.specs.declared.Arch.{Arch}
 use Rattle.igvm_defs.specs.declared.Fault.{Fault}
-use Rattle.igvm_defs.specs.Refusals.{fault, noFault, refuse, isFault}
+use Rattle.igvm_defs.specs.Refusals.{fault, noFault, refuse}
 use Rattle.platform_header.specs.declared.IgvmPlatformHeader.{IgvmPlatformHeader}
 use Rattle.initialization_header.specs.declared.IgvmInitializationHeader.{IgvmInitializationHeader}
 use Rattle.rules.specs.declared.Region.{Region}
@@ -72,11 +72,10 @@ pub record HoldsClashes (masks gpas sizes : List ℕ) (tables : List Bool) (n : 
   pub tables-share : (r : Region) → anyTablesShare r masks tables n ≡ any (regionPasses (tablesShare r)) xs
   pub overlaps : (r : Region) → anyOverlap r masks gpas sizes n ≡ any (regionPasses (overlap r)) xs
 
--- what a step at row i answers: the row's fault, and its region where it has one, which ends below 2^64 where there is no fault
+-- what a step at row i answers: the row's fault, and its region where it has one
 pub record InitializationStepped (arch : Arch) (ps : Rows IgvmPlatformHeader) (xs : Rows IgvmInitializationHeader) (i : ℕ) (f : Fault) (found : Bool) (new : Region) : Type 0 where
   pub told : f ≡ initializationFault arch ps (before i xs) (xs .row i)
   pub region : regionOf (xs .row i) ≡ cond found (some new) none
-  pub ends : isFault f ≡ false → found ≡ true → new .gpa + new .size ≤ 18446744073709551615
 
 -- the record with a region behind its own, counted where there is one
 abbrev pub stored : RelocRegions → Bool → Region → RelocRegions

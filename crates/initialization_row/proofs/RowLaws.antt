@@ -1,5 +1,5 @@
 -- An initialization row whose body passes the tests of its kind has no fault but one that an earlier row may give it.
-use Rattle.rows.{proofs.Kit.{_≡_, refl, sym, _∙_, Bool, true, false, not, _&&_, false≢true, List, none, ℕ, _+_, _/_, _%_, _^_, arith, bitAnd, and-shr, and-step, eqb, leb, ltb, length, eqb-true, eq-eqb, leb-true, ltb-false, not-true}, specs.Rows.Rows, proofs.Bools.and-parts}
+use Rattle.rows.{proofs.Kit.{_≡_, refl, sym, _∙_, Bool, true, false, not, _&&_, List, none, ℕ, _/_, _%_, _^_, arith, bitAnd, and-shr, and-step, eqb, leb, ltb, length, eqb-true, eq-eqb, leb-true, not-true}, specs.Rows.Rows, proofs.Bools.and-parts}
 use Rattle.le.specs.Le.{byteAt, leAt}
 use Rattle.igvm_defs.{specs.declared.Arch.Arch, specs.declared.Arch.the-variants.{X64, AArch64}, specs.Kinds.{kindOf, spans, lengthOk}, specs.Refusals.{fault, noFault, refuse, isFault}, specs.Revision.{isX64, isAArch64}, proofs.RefusalLaws.no-fault, proofs.VtlLaws.vtl-number}
 use Rattle.masks.{specs.Masks.{shares, matches, hasBit}, proofs.MaskLaws.has-bit}
@@ -66,7 +66,7 @@ module _ (arch : Arch) (ps : Rows IgvmPlatformHeader) (b : List ℕ) where
   pub guest-in-order : (new : Region) → eqb (length b) 12 ≡ true → InOrder arch ps 16 b false new
   unfolding kindOf spans lengthOk codesOk initializationOf ownInitializationFault regionPasses isFault
   guest-in-order new long =
-      record { list = refl; long = long; codes = refl; own = refl; cca = refl; region = refl; ends = λ e. absurd (false≢true e) }
+      record { list = refl; long = long; codes = refl; own = refl; cca = refl; region = refl }
 
   -- 17
   policy-cca : (cca : ℕ) → HoldsCca cca ps → matches (leAt 4 b 0) cca ≡ true → withoutCca ps (ccaPolicyOf b) ≡ none
@@ -88,7 +88,6 @@ module _ (arch : Arch) (ps : Rows IgvmPlatformHeader) (b : List ℕ) where
         own = rw (apart, a) no-fault;
         cca = policy-cca cca holds (rw (← em, ← eh) matched);
         region = refl;
-        ends = λ f. absurd (false≢true f);
       }
 
   -- 18
@@ -115,7 +114,6 @@ module _ (arch : Arch) (ps : Rows IgvmPlatformHeader) (b : List ℕ) where
         own = rw (r17, r27, high) no-fault;
         cca = refl;
         region = rw (em, eg, es, ev, vtl-number (byteAt b 47) (leb-true (byteAt b 47) 2 level));
-        ends = λ _. ltb-false 18446744073709551615 (gpa + size) r28;
       }
 
   -- 19
@@ -141,5 +139,4 @@ module _ (arch : Arch) (ps : Rows IgvmPlatformHeader) (b : List ℕ) where
         own = rw (r21, r27, high) no-fault;
         cca = refl;
         region = rw (em, eg, es, ev, vtl-number (byteAt b 30) (leb-true (byteAt b 30) 2 codes));
-        ends = λ _. ltb-false 18446744073709551615 (gpa + size) r28;
       }

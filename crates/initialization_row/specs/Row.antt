@@ -1,5 +1,5 @@
 -- An initialization row by its kind and its body, whatever initialization rows stand before it.
-use Prim.Native.Nat.{ℕ, _+_, _≤_}
+use Prim.Native.Nat.{ℕ}
 use mathlib.Core.Bool.{Bool, true, false, cond}
 use mathlib.Core.List.{List}
 use mathlib.Core.Option.{none, some}
@@ -24,4 +24,3 @@ pub record InOrder (arch : Arch) (platforms : Rows IgvmPlatformHeader) (kind : �
   pub own : isFault (ownInitializationFault arch (initializationOf kind b)) ≡ false
   pub cca : withoutCca platforms (initializationOf kind b) ≡ none
   pub region : regionOf (initializationOf kind b) ≡ cond found (some new) none
-  pub ends : found ≡ true → new .gpa + new .size ≤ 18446744073709551615

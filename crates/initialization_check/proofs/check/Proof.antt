@@ -3,7 +3,7 @@ use Rattle.igvm_defs.specs.Refusals.{orFault}
 use Rattle.rules.specs.Initializations.{validateInitialization, initializationFault}
 use Rattle.by_start.proofs.OrderedLaws.{search-tells}
 use Rattle.initialization_check.specs.Record.{policyFault}
-use Rattle.initialization_check.proofs.{FaultLaws.{row-fault, region-ends}, check.Statement.statement}
+use Rattle.initialization_check.proofs.{FaultLaws.row-fault, check.Statement.statement}
 use Rattle.initialization_check.proofs.check.Tie as tie
 
 returns : tie.Need-returns
@@ -38,7 +38,6 @@ returns c =
           record {
             told = told;
             region = rw (← e) (n .region-of .ensures);
-            ends = λ f t. region-ends (before i xs) (xs .row i) (new .region) (a .arch) ps (rw (← e) (n .region-of .ensures ∙ rw t)) (rw (← told) f);
           },
       (search .search .ensures, begin .begin .ensures _ ordered .0),
     )
