@@ -1,6 +1,6 @@
 //! Bases that were checked: which answers, and which combinations of what is wrong with a base, a run must have met.
 
-use crate::columns::Columns;
+use crate::columns::counts;
 
 /// The answers from 1 on; then bases of which more than one thing is wrong; then such as are too high alone, and whose sum with the size is 2^64 or above it.
 const COLUMNS: [&str; 10] = [
@@ -51,9 +51,7 @@ impl Faults {
     }
 }
 
-/// How often each was met.
-#[derive(Clone, Copy, Default)]
-pub struct Bases([u64; COLUMNS.len()]);
+counts!(Bases);
 
 impl Bases {
     /// A check of a base by these words of a region, and its answer, from 1 to 4.
@@ -62,17 +60,5 @@ impl Bases {
         if let Some(column) = Faults::of(words, base).column() {
             self.0[column] += 1;
         }
-    }
-}
-
-impl Columns for Bases {
-    const NAMES: &'static [&'static str] = &COLUMNS;
-
-    fn counts(&self) -> &[u64] {
-        &self.0
-    }
-
-    fn counts_mut(&mut self) -> &mut [u64] {
-        &mut self.0
     }
 }

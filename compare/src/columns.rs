@@ -27,3 +27,32 @@ pub trait Columns {
         Self::NAMES.iter().zip(self.counts()).map(|(name, count)| format!("{name} {count}")).collect::<Vec<_>>().join("; ")
     }
 }
+
+/// A type that counts how often each of the `COLUMNS` of its module was met.
+macro_rules! counts {
+    ($name:ident) => {
+        /// How often each was met.
+        #[derive(Clone, Copy)]
+        pub struct $name([u64; COLUMNS.len()]);
+
+        impl Default for $name {
+            fn default() -> Self {
+                $name([0; COLUMNS.len()])
+            }
+        }
+
+        impl $crate::columns::Columns for $name {
+            const NAMES: &'static [&'static str] = &COLUMNS;
+
+            fn counts(&self) -> &[u64] {
+                &self.0
+            }
+
+            fn counts_mut(&mut self) -> &mut [u64] {
+                &mut self.0
+            }
+        }
+    };
+}
+
+pub(crate) use counts;

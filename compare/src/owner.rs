@@ -1,7 +1,7 @@
 //! Which region has an address: what follows from the Rust's headers, how the calls by sheet and by index go together, which addresses, indexes and answers a
 //! run must have met, lookups in any bytes, and plain Rust.
 
-use crate::columns::Columns;
+use crate::columns::{counts, Columns};
 use crate::compare::{Between, Call, Difference, Extent};
 use crate::paper::Refusal;
 use crate::random::Random;
@@ -278,32 +278,12 @@ fn columns(headers: Option<&Headers>, call: Call, number: u64, row: u64, has_rus
     columns
 }
 
-/// How often each was met.
-#[derive(Clone, Copy)]
-pub struct Owners([u64; COLUMNS.len()]);
-
-impl Default for Owners {
-    fn default() -> Self {
-        Owners([0; COLUMNS.len()])
-    }
-}
+counts!(Owners);
 
 impl Owners {
     /// The answer to a call by a sheet, and whether it was compared with the Rust's headers.
     pub fn met(&mut self, headers: Option<&Headers>, call: Call, numbers: &[u64], has_rust: bool) {
         self.count(&columns(headers, call, numbers[0], numbers[3], has_rust));
-    }
-}
-
-impl Columns for Owners {
-    const NAMES: &'static [&'static str] = &COLUMNS;
-
-    fn counts(&self) -> &[u64] {
-        &self.0
-    }
-
-    fn counts_mut(&mut self) -> &mut [u64] {
-        &mut self.0
     }
 }
 

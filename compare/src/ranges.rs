@@ -1,7 +1,7 @@
 //! Ranges of bases: which ranges and which answers a run must have met, and the answer by the Rust's check of each multiple, by the check by words of
 //! each, and by plain Rust.
 
-use crate::columns::Columns;
+use crate::columns::{counts, Columns};
 use crate::paper::Refusal;
 use crate::plain;
 use oracle::IgvmRelocatableRegion;
@@ -110,15 +110,7 @@ pub fn sort(words: &[u64; 8], (lowest, highest): (u64, u64), answer: u64) -> u32
     SORT.iter().fold(0, |bits, &column| 2 * bits + u32::from(columns[column]))
 }
 
-/// How often each was met.
-#[derive(Clone, Copy)]
-pub struct Ranges([u64; COLUMNS.len()]);
-
-impl Default for Ranges {
-    fn default() -> Self {
-        Ranges([0; COLUMNS.len()])
-    }
-}
+counts!(Ranges);
 
 impl Ranges {
     /// A range of bases of a region with these words, the answer, from 1 to 3, and whether it followed from the Rust's check of each multiple too.
@@ -137,18 +129,6 @@ impl Ranges {
             _ => BEFORE,
         };
         self.0[column] += 1;
-    }
-}
-
-impl Columns for Ranges {
-    const NAMES: &'static [&'static str] = &COLUMNS;
-
-    fn counts(&self) -> &[u64] {
-        &self.0
-    }
-
-    fn counts_mut(&mut self) -> &mut [u64] {
-        &mut self.0
     }
 }
 

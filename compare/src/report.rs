@@ -1,6 +1,6 @@
 //! The report: what the Rust says row by row, how it goes with the verdict, which sheets and answers a run must have met, and plain Rust.
 
-use crate::columns::Columns;
+use crate::columns::counts;
 use crate::compare::{to_lend, Call, Extent, Rust};
 use crate::paper::{self, Refusal};
 use crate::plain;
@@ -426,27 +426,7 @@ pub fn columns(sheet: &[u8], lent: usize, answered: &Answered) -> Vec<bool> {
     columns
 }
 
-/// How often each was met.
-#[derive(Clone, Copy)]
-pub struct Reports([u64; COLUMNS.len()]);
-
-impl Default for Reports {
-    fn default() -> Self {
-        Reports([0; COLUMNS.len()])
-    }
-}
-
-impl Columns for Reports {
-    const NAMES: &'static [&'static str] = &COLUMNS;
-
-    fn counts(&self) -> &[u64] {
-        &self.0
-    }
-
-    fn counts_mut(&mut self) -> &mut [u64] {
-        &mut self.0
-    }
-}
+counts!(Reports);
 
 // ---- plain Rust
 

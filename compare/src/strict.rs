@@ -1,6 +1,6 @@
 //! The strict verdict: what follows from the Rust's headers, how it goes with the verdict, which images and answers a run must have met, and plain Rust.
 
-use crate::columns::Columns;
+use crate::columns::{counts, Columns};
 use crate::paper::Refusal;
 use crate::plain;
 use oracle::{Headers, IgvmDirectiveHeader, IgvmInitializationHeader, IgvmPlatformHeader};
@@ -186,26 +186,12 @@ pub fn sort(headers: &Headers, numbers: &[u64]) -> u32 {
     SORT.iter().fold(0, |bits, &column| 2 * bits + u32::from(columns[column]))
 }
 
-/// How often each was met.
-#[derive(Clone, Copy, Default)]
-pub struct Strict([u64; COLUMNS.len()]);
+counts!(Strict);
 
 impl Strict {
     /// The strict verdict on a readable image.
     pub fn met(&mut self, headers: &Headers, numbers: &[u64]) {
         self.count(&columns(headers, numbers));
-    }
-}
-
-impl Columns for Strict {
-    const NAMES: &'static [&'static str] = &COLUMNS;
-
-    fn counts(&self) -> &[u64] {
-        &self.0
-    }
-
-    fn counts_mut(&mut self) -> &mut [u64] {
-        &mut self.0
     }
 }
 

@@ -1,8 +1,10 @@
 //! The answers of the check of a range of bases: each up to its bounds, beside the base check of each multiple, and the order of its refusals.
 
 mod common;
+mod random;
 
 use common::{bounded_region, image_b, image_with, region};
+use random::Random;
 use sapyullu::BaseRange::{Always, Never, Sometimes};
 use sapyullu::*;
 
@@ -157,23 +159,17 @@ fn a_small_range_answers_as_the_base_checks_of_its_multiples() {
 
 #[test]
 fn a_wide_range_answers_as_the_base_checks_of_its_multiples() {
-    let mut state = 1_u64;
-    let mut random = move || {
-        state ^= state << 13;
-        state ^= state >> 7;
-        state ^= state << 17;
-        state
-    };
+    let mut random = Random(1);
     let mut answers = [0; 3];
     for _ in 0..20_000 {
         // Of an alignment of 2^60 and above there are at most sixteen multiples.
-        let alignment = (random() >> (random() % 4) | 1 << 60) & TOP;
+        let alignment = (random.word() >> random.below(4) | 1 << 60) & TOP;
         let numbers = u64::MAX / alignment + 1;
-        let [minimum, maximum, near] = [random(), random(), random()].map(|number| alignment * (number % numbers));
-        let size = [0x1000, alignment, random() & TOP, random() >> 8 & TOP][(random() % 4) as usize].max(0x1000);
+        let [minimum, maximum, near] = [random.word(), random.word(), random.word()].map(|number| alignment * (number % numbers));
+        let size = [0x1000, alignment, random.word() & TOP, random.word() >> 8 & TOP][random.below(4) as usize].max(0x1000);
         let sheet = sheet(alignment, size, minimum, maximum);
-        let places = [0, minimum, maximum.wrapping_sub(size), near, near.wrapping_sub(1), near + 1, random(), u64::MAX];
-        let [one, other] = [random(), random()].map(|number| places[(number % 8) as usize]);
+        let places = [0, minimum, maximum.wrapping_sub(size), near, near.wrapping_sub(1), near + 1, random.word(), u64::MAX];
+        let [one, other] = [random.word(), random.word()].map(|number| places[(number % 8) as usize]);
         let (lowest, highest) = (one.min(other), one.max(other));
         let expected = tried(&sheet, alignment, lowest, highest);
         let said = range(&sheet, lowest, highest);

@@ -1,8 +1,10 @@
 //! Which region of a mask owns an address: by the sheet, by an index, and by a full reading of the headers.
 
 mod common;
+mod random;
 
 use common::{image_b, image_with};
+use random::Random;
 use sapyullu::IgvmInitializationHeader::{GuestPolicy, PageTableRelocationRegion, RelocatableRegion};
 use sapyullu::*;
 use std::collections::BTreeSet;
@@ -254,17 +256,6 @@ fn an_index_is_shared_shown_and_compared() {
         scope.spawn(|| assert_eq!(index.region_of(0x10_0000), Some(2)));
         scope.spawn(|| assert_eq!(index.region_of(0x10_2000), None));
     });
-}
-
-struct Random(u64);
-
-impl Random {
-    fn below(&mut self, bound: u64) -> u64 {
-        self.0 ^= self.0 << 13;
-        self.0 ^= self.0 >> 7;
-        self.0 ^= self.0 << 17;
-        self.0 % bound
-    }
 }
 
 #[test]

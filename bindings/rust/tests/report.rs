@@ -1,8 +1,10 @@
 //! The report: what it tells of each row when earlier faulty rows are skipped, what it tells of the whole, and how it goes together with the verdict.
 
 mod common;
+mod random;
 
 use common::{image_b, platform, region};
+use random::Random;
 use sapyullu::IgvmDirectiveHeader::{AArch64VbsVpContext, PageData, ParameterArea, ParameterInsert, VpCount, X64VbsVpContext};
 use sapyullu::IgvmInitializationHeader::{CcaPolicy, PageTableRelocationRegion, RelocatableRegion};
 use sapyullu::*;
@@ -284,16 +286,7 @@ fn no_platform_is_told_where_none_is_kept() {
 
 // ---- sheets with many faults, and what the verdict says of their rows
 
-struct Random(u64);
-
 impl Random {
-    fn below(&mut self, bound: u64) -> u64 {
-        self.0 ^= self.0 << 13;
-        self.0 ^= self.0 >> 7;
-        self.0 ^= self.0 << 17;
-        self.0 % bound
-    }
-
     /// One of these.
     fn of<T: Copy>(&mut self, values: &[T]) -> T {
         values[self.below(values.len() as u64) as usize]

@@ -1,8 +1,10 @@
 //! The strict verdict: a context for each bit of each region's mask, which region and which bit a refusal names, and what comes before it.
 
 mod common;
+mod random;
 
 use common::{image_b, platform};
+use random::Random;
 use sapyullu::IgvmDirectiveHeader::{AArch64CcaVpContext, AArch64VbsVpContext, SnpVpContext, X64NativeVpContext, X64VbsVpContext};
 use sapyullu::IgvmInitializationHeader::{PageTableRelocationRegion, RelocatableRegion};
 use sapyullu::Vtl::{Vtl0, Vtl1, Vtl2};
@@ -208,13 +210,8 @@ fn mask_and_vtl(random: &mut impl FnMut(u64) -> u64) -> (u32, Vtl) {
 
 #[test]
 fn regions_and_contexts_of_all_sorts_and_in_another_order() {
-    let mut state = 1_u64;
-    let mut random = move |below: u64| {
-        state ^= state << 13;
-        state ^= state >> 7;
-        state ^= state << 17;
-        state % below
-    };
+    let mut source = Random(1);
+    let mut random = |bound| source.below(bound);
     let (mut by_38, mut by_another, mut by_none) = (0, 0, 0);
     for _ in 0..20_000 {
         let mut headers = vec![];
