@@ -31,6 +31,8 @@ mod shrink;
 mod speed;
 mod strict;
 mod tally;
+mod trimmed;
+mod trimming;
 
 use calls::Calls;
 use columns::Columns;
@@ -51,7 +53,7 @@ struct Options {
 }
 
 const USAGE: &str = "compare [PART] [--cases N] [--seed N] [--threads N] [--backend library|paper] [FILE..]
-parts: all (samples, short, random, faulty, large, regions, adapter, order, wrong) or one of these, with the samples' folder; speed; against FOLDER; emit; one HEX; record [--check] FOLDER";
+parts: all (samples, short, random, faulty, large, regions, adapter, order, trimmed, wrong) or one of these, with the samples' folder; speed; against FOLDER; emit; one HEX; record [--check] FOLDER";
 
 fn options() -> Result<Options, String> {
     let mut options = Options {
@@ -126,6 +128,7 @@ fn part(o: &Options) -> Result<(), String> {
         "regions" => region_bytes(&calls, o),
         "adapter" => adapter::run(&calls, o.seed, o.cases, o.threads),
         "order" => order::run(&calls, o.seed, o.cases, o.threads),
+        "trimmed" => trimmed::run(&calls, o.seed, o.cases, o.threads),
         "wrong" => wrong_copies(o),
         "speed" => return speed::run(&calls, &o.speed),
         "all" => all(&calls, o),
@@ -158,6 +161,7 @@ fn all(calls: &Calls, o: &Options) -> Result<(), String> {
     region_bytes(calls, o)?;
     adapter::run(calls, o.seed, o.cases / 5, o.threads)?;
     order::run(calls, o.seed, o.cases / 20, o.threads)?;
+    trimmed::run(calls, o.seed, o.cases / 20, o.threads)?;
     wrong_copies(o)
 }
 
@@ -271,7 +275,7 @@ fn region_bytes(calls: &Calls, o: &Options) -> Result<(), String> {
     Ok(())
 }
 
-/// Every wrong copy is caught.
+/// Every wrong copy is caught, of paper.rs and of the rule of trimmed images.
 fn wrong_copies(o: &Options) -> Result<(), String> {
     let start = Instant::now();
     let of_thread = |thread: u64| {
@@ -279,14 +283,17 @@ fn wrong_copies(o: &Options) -> Result<(), String> {
         copies.map(|copy| (copy.0, caught_copy(copy, o))).collect()
     };
     let by_thread: Vec<Vec<_>> = run::on_threads(o.threads, of_thread);
+    let of_paper = (0..wrong::WRONG.len()).map(|copy| by_thread[copy % o.threads][copy / o.threads].clone());
+    let of_rule = trimming::WRONG.iter().map(|copy| (copy.0, trimmed::caught(copy, o.seed)));
     let mut missed = Vec::new();
-    for copy in 0..wrong::WRONG.len() {
-        match &by_thread[copy % o.threads][copy / o.threads] {
-            (_, Some(line)) => println!("{line}"),
-            (name, None) => missed.push(*name),
+    for (name, line) in of_paper.chain(of_rule) {
+        match line {
+            Some(line) => println!("{line}"),
+            None => missed.push(name),
         }
     }
-    println!("{} wrong copies, {} not caught, {:.1?}", wrong::WRONG.len(), missed.len(), start.elapsed());
+    let count = wrong::WRONG.len() + trimming::WRONG.len();
+    println!("{count} wrong copies, {} not caught, {:.1?}", missed.len(), start.elapsed());
     if missed.is_empty() {
         return Ok(());
     }

@@ -140,7 +140,7 @@ fn reorder(random: &mut Random, a: Image) -> Reordered {
 }
 
 /// The rows that keep their order among each other, by what ties them.
-fn tied_rows(list: usize, rows: &[Row]) -> BTreeMap<u64, Vec<usize>> {
+pub fn tied_rows(list: usize, rows: &[Row]) -> BTreeMap<u64, Vec<usize>> {
     let mut tied: BTreeMap<u64, Vec<usize>> = BTreeMap::new();
     for (at, row) in rows.iter().enumerate() {
         if let Some(tie) = tie(list, row) {
@@ -301,7 +301,8 @@ fn same_owners(
     Ok(())
 }
 
-fn masks(random: &mut Random, image: &Image) -> Vec<u32> {
+/// Masks that are not 0: any bit, and of the initialization rows.
+pub fn masks(random: &mut Random, image: &Image) -> Vec<u32> {
     let of_rows: Vec<u32> = image.lists[1].iter().filter_map(|row| row.get("mask")).map(|mask| mask as u32).collect();
     let mut masks = vec![1 << random.below(32)];
     if !of_rows.is_empty() {
