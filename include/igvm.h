@@ -25,7 +25,7 @@ extern "C" {
 #endif
 
 /* The library's version; docs/CHANGELOG.md of the repository says what changed. */
-enum { IGVM_VERSION_MAJOR = 0, IGVM_VERSION_MINOR = 8, IGVM_VERSION_PATCH = 0 };
+enum { IGVM_VERSION_MAJOR = 0, IGVM_VERSION_MINOR = 8, IGVM_VERSION_PATCH = 1 };
 
 /* Limits: a sheet with more rows in a list, or with more bytes, is refused by IGVM_ERROR_LIMIT_EXCEEDED.
  *

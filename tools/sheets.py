@@ -4,7 +4,8 @@
 How a sample is made: a row is made by the function of its kind, whose arguments are the fields that differ from the defaults;
 the defaults of platform(), region() and x64_vbs() are the three rows of image B. B.platforms(..), B.initializations(..) and
 B.directives(..) are B with other rows in that list, B.plus(..) is B with rows after those of their lists, and B.head(..) is B with
-other numbers in its head. A is B on AArch64. What can't be said in this way changes the bytes: bytes(B)[:-1], bytes(B) + b"x".
+other numbers in its head; B.without(..) is B without the rows of these numbers. A is B on AArch64. What can't be said in this way changes the bytes: bytes(B)[:-1],
+bytes(B) + b"x".
 
 The line beside a sample is written by hand from the paper. `--check` holds it against tools/model.py.
 
@@ -16,6 +17,7 @@ The line beside a sample is written by hand from the paper. `--check` holds it a
     tools/sheets.py --samples            write the folder samples: one sheet for each refusal, some accepted ones and some of other calls than the verdict, with a README
 """
 
+import itertools
 import sys
 from dataclasses import dataclass, replace
 from pathlib import Path
@@ -105,6 +107,11 @@ class Sheet:
             number = 0 if row.kind < 16 else 1 if row.kind < 32 else 2
             self = self.with_list(number, self.lists[number] + (row,))
         return self
+
+    def without(self, *numbers):
+        """The rows of these numbers, from 1 across the lists, are dropped."""
+        row = itertools.count(1)
+        return replace(self, lists=tuple(tuple(each for each in rows if next(row) not in numbers) for rows in self.lists))
 
     def head(self, **fields):
         return replace(self, **fields)
@@ -577,6 +584,19 @@ refused("08-many-faults", 2, 0, "faults in all three lists, and rows between the
     aarch64_vbs(vtl=1),
 ))
 
+# an accepted image of which rows are dropped: the rest is accepted, but for rows that must remain
+BEFORE = B.plus(
+    region(gpa=0x102000), page_table(), guest_policy(),  # rows 3 to 5, behind the region of B; the context of B is row 6
+    page_data(gpa=0x1000, tail=b"page"), parameter_area(area=7, tail=b"area 7"), parameter_area(area=8, tail=b"area 8"),  # rows 7 to 9
+    vp_count(area=7), PARAMETERS[8](area=7, offset=0x800), parameter_insert(area=7, gpa=0x400000), snp_id_block(tail=b"ID block"),  # rows 10 to 13
+)
+accepted("trimmed-before", "1 4 8", "two regions, a page table, a policy, a context, a page, areas 7 and 8, of which 7 is named twice and inserted, and an ID block", BEFORE)
+accepted("trimmed-after", "1 2 5", "the same without a region, the page table, the page, area 8, which no row names, and one of the two rows that name area 7", BEFORE.without(2, 4, 7, 9, 11))
+accepted("trimmed-area-unnamed", "1 4 4", "the same as the first without area 7 and all rows that name it", BEFORE.without(8, 10, 11, 12))
+accepted("trimmed-most", "1 0 1", "a platform and the context are left of the first", BEFORE.without(2, 3, 4, 5, *range(7, 14)))
+refused("34-trimmed-no-context", 0, 0, "the first without its context", BEFORE.without(6))
+refused("32-trimmed-no-area", 9, 0, "the first without area 7, which three rows name", BEFORE.without(8))
+
 # the largest lists
 SIXTY_FOUR = [region(gpa=0x2000 * number, maximum=TOP) for number in range(64)]
 FULL = B.platforms(*SIX).initializations(*SIXTY_FOUR)
@@ -768,8 +788,10 @@ SHOWN = [
     Shown("30-page-type-4", "30-type-4", "a page of a type that is not in the table"),
     Shown("31-data-4097", "31-page", "a page of 4,097 bytes"),
     Shown("32-no-area", "32-kind-34", "a VpCount that names an area which is not allocated"),
+    Shown("trimmed-32-no-area", "32-trimmed-no-area", "`trimmed-before` without row 8, a parameter area that remaining rows name: the first of them is refused"),
     Shown("33-insert-in-page-table", "33-gpa", "a parameter area inserted at the page-table region's gpa"),
     Shown("34-no-context", "34-mask", "a region of mask 1, a context of mask 2"),
+    Shown("trimmed-34-no-context", "34-trimmed-no-context", "`trimmed-before` without row 6, the context"),
     Shown("strict-34-first", "34-mask-3", "a region of mask 3 and a context of mask 1, then a region of VTL 1 without a context: 34 comes before 38",
           "strict_verdict", "refused 34 row 0 detail 0"),
     Shown("35-mask-zero", "b", "a query of mask 0", "relocations mask 0 lent 64", "refused 35 row 0 detail 0"),
@@ -856,13 +878,15 @@ SHOWN = [
     Shown("report-34-vp-1", "21-vp-1", "a region of VP index 1 is no faulty row", "report lent 32", "reported 1 of 4, 21 row 4, 34 row 0"),
     Shown("report-faulty-region-without-context", "29-without-context", "a region that is faulty needs no context", "report lent 32", "reported 1 of 4, 29 row 3"),
     Shown("strict-two-contexts", "mask-3-two-contexts", "a region of mask 3, contexts of masks 1 and 2", "strict_verdict", "accepted 1 1 2"),
+    Shown("trimmed-before", "trimmed-before", "an image to be trimmed: two regions, a page-table region, a policy, a context, a page, two parameter areas, of which one is named, and an ID block"),
+    Shown("trimmed-after", "trimmed-after", "`trimmed-before` without rows 2, 4, 7, 9 and 11: a region, the page-table region, the page, the area that no row names, and a row that names the other"),
 ]
 
 FOLDER = REPOSITORY / "samples"
 README = """# Sample sheets
 
-One sheet for each refusal, some that are accepted, some for whose region a base or a range of bases is proposed, some for the strict verdict, some with several faults for the report, and some in which the owner of an address is
-looked up. `admit` answers the verdict:
+One sheet for each refusal, some that are accepted, some for whose region a base or a range of bases is proposed, some for the strict verdict, some with several faults for the report, some in which the owner of an address is
+looked up, and one from which headers are dropped. `admit` answers the verdict:
 
     rt check admit && target/bin/admit < samples/19-alignment-zero.sheet
 
@@ -872,7 +896,8 @@ call and of the examples in Rust and in C. The verdict accepts 35 to 38 and 50; 
 maximum, the first that applies. Of a range: 1 always, 2 never, 3 sometimes. Of an address (`region_of`): the row of the region that owns it, 0 where there is none. `region_index` makes an index of a mask's regions: `indexed 3` says how many they
 are, and behind it stand start, size and row of each. `strict_verdict` asks for a context for each bit of a region's mask besides; the examples make it with `--strict`. `report` tells of all faulty rows: `reported 2 of 5` says how many rows are
 faulty, and of how many, and behind it stands the refusal of each with its row; 15 and 34, which a report tells of the sheet as a whole, have row 0. The example `report` of the Rust crate puts it into words. Of what it
-reports the first is the verdict's refusal, but in `report-no-platform`, where that is 15. `docs/SHEET.md` says how a sheet is written, when a base is valid, what is said
+reports the first is the verdict's refusal, but in `report-no-platform`, where that is 15. `trimmed-after` is `trimmed-before` without some of its rows, as the example `trim` of the Rust crate writes it: from an accepted image any
+initialization and directive rows may be dropped but VBS contexts and parameter areas that a remaining row names. In `trimmed-34-no-context` and `trimmed-32-no-area` one of these is dropped. `docs/SHEET.md` says how a sheet is written, when a base is valid, what is said
 of a range, who owns an address and what is reported, `docs/REFUSALS.md` what each refusal means and how to mend it. `tools/sheets.py --samples` writes this folder, and `tools/sheets.py --check` holds it to the samples and the lines of its list.
 
 | file | call | answer | what it shows |

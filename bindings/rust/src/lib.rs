@@ -7,6 +7,9 @@
 //! bytes, makes one call of the library, and answers or gives one [`Refusal`], with its row, its list and index there, its reason and its cure. A refusal is the
 //! first fault alone: [`report`] tells an image's builder of all faulty rows in one pass.
 //!
+//! For recovery builds [`Sheet::trimmed`], and [`trimmed`] of a sheet's bytes, drop headers from an accepted image. What is left is accepted; a header that must remain
+//! is a [`TrimError`].
+//!
 //! ```
 //! use sapyullu::*;
 //!
@@ -38,7 +41,7 @@
 //!
 //! In the repository: docs/SHEET.md has the sheet's layout and its limits, docs/REFUSALS.md each refusal with what it means, docs/MIGRATION.md the way from
 //! crate igvm to this one, docs/DIFFERENCES.md where the answers differ from that crate's. The program examples/explain.rs puts a sheet into words and says
-//! what is wrong with it, examples/report.rs what is wrong with each of its rows.
+//! what is wrong with it, examples/report.rs what is wrong with each of its rows; examples/trim.rs writes a sheet without some of its rows.
 
 #![deny(missing_docs)]
 
@@ -53,6 +56,7 @@ mod refusal;
 mod region_index;
 mod report;
 mod sheet;
+mod trim;
 
 pub use base_check::BaseCheck;
 pub use base_range::BaseRange;
@@ -65,6 +69,7 @@ pub use refusal::{Error, Refusal};
 pub use region_index::{region_in, region_index_into, region_of, IndexedRegion, RegionIndex, REGION_INDEX_BYTES};
 pub use report::{report, report_into, FaultyRow, Report, Reported};
 pub use sheet::{sheet_bytes, Sheet, SheetError};
+pub use trim::{trimmed, TrimError};
 
 // The Rust in the repository's README is run by the tests. Its other blocks are fenced and name their language.
 #[cfg(doctest)]

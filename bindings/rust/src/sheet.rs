@@ -190,8 +190,8 @@ impl Rows for Count {
     }
 }
 
-const HEAD_BYTES: usize = 16;
-const ENTRY_BYTES: usize = 8;
+pub(crate) const HEAD_BYTES: usize = 16;
+pub(crate) const ENTRY_BYTES: usize = 8;
 
 /// The sheet with its head, and zeroes for its table of contents and its bodies.
 fn empty_sheet(revision: IgvmRevision, counts: &[Count; 3]) -> Result<Vec<u8>, SheetError> {

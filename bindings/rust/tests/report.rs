@@ -287,11 +287,6 @@ fn no_platform_is_told_where_none_is_kept() {
 // ---- sheets with many faults, and what the verdict says of their rows
 
 impl Random {
-    /// One of these.
-    fn of<T: Copy>(&mut self, values: &[T]) -> T {
-        values[self.below(values.len() as u64) as usize]
-    }
-
     fn platform(&mut self) -> IgvmPlatformHeader {
         use IgvmPlatformType as Type;
         IgvmPlatformHeader::SupportedPlatform(IGVM_VHS_SUPPORTED_PLATFORM {

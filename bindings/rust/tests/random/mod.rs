@@ -13,4 +13,10 @@ impl Random {
     pub fn below(&mut self, bound: u64) -> u64 {
         self.word() % bound
     }
+
+    /// One of these. Not every test takes one.
+    #[allow(dead_code)]
+    pub fn of<T: Copy>(&mut self, values: &[T]) -> T {
+        values[self.below(values.len() as u64) as usize]
+    }
 }
