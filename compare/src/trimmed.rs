@@ -1,5 +1,6 @@
 //! Document 02's request 14 by running: accepted images of which rows are dropped as it allows get the old answers without the dropped regions. And one row more is
-//! dropped, which has to remain: that the verdict is then another, mostly, shows that each condition is needed.
+//! dropped, which has to remain: that the verdict is then another, mostly, shows that each condition is needed. Crate sapyullu makes the same sheets, and refuses
+//! such a row.
 
 use crate::columns::{counts, Columns};
 use crate::compare::{check, Call, Extent, Rust};
@@ -108,6 +109,8 @@ struct Seen {
     /// rows dropped that have to remain, and of these such as the rule lets go
     broken: u64,
     let_go: u64,
+    /// sheets and refusals by crate sapyullu
+    by_crate: u64,
     /// a bit for each kind of which a row was dropped as it may be
     kinds: u64,
     columns: Trimmed,
@@ -124,6 +127,7 @@ impl Seen {
         self.addresses += other.addresses;
         self.broken += other.broken;
         self.let_go += other.let_go;
+        self.by_crate += other.by_crate;
         self.kinds |= other.kinds;
         self.columns.add(&other.columns);
     }
@@ -163,7 +167,12 @@ pub fn run(calls: &Calls, seed: u64, cases: u64, threads: usize) -> Result<(), S
         "trimmed: {} images, {} of them refused; the others agree, with {} rows dropped and {} left: {} lists, {} regions, {} addresses;",
         seen.images, seen.refused, seen.dropped, seen.left, seen.lists, seen.regions, seen.addresses
     );
-    println!("  {} times a row dropped that has to remain; {:.1?}", seen.broken, start.elapsed());
+    println!(
+        "  {} times a row dropped that has to remain; {} sheets and refusals by crate sapyullu; {:.1?}",
+        seen.broken,
+        seen.by_crate,
+        start.elapsed()
+    );
     println!("  {}", seen.columns.text());
     seen.every_sort()
 }
@@ -188,12 +197,13 @@ fn images(calls: &Calls, rule: &Rule, seed: u64, cases: impl Iterator<Item = u64
         };
         let sheet = image.bytes();
         seen.images += 1;
+        let found = |kept: &[bool], what: String| Found { case, what, sheet: sheet.clone(), kept: kept.to_vec() };
         if Call::Verdict.ask(calls, &sheet, &mut [], 0) != 0 {
             seen.refused += 1;
+            seen.by_crate += host::refused_image(&sheet).map_err(|what| found(&[], what))?;
             continue;
         }
         let mut kept = allowed(&mut random, &image);
-        let found = |kept: &[bool], what: String| Found { case, what, sheet: sheet.clone(), kept: kept.to_vec() };
         Trim::new(calls, rule, &image, &sheet, &kept).allowed(&mut random, &mut seen).map_err(|what| found(&kept, what))?;
         if let Some(row) = needed_row(&mut random, &image, &mut kept) {
             kept[row as usize - 1] = false;
@@ -310,6 +320,7 @@ impl<'a> Trim<'a> {
             let verdict = answer(self.calls, &sheet, Call::Verdict).0;
             return Err(format!("the rule makes another sheet of the rows that remain, of which the verdict is {verdict:?}"));
         }
+        seen.by_crate += host::same_sheet(random, &self.choice, &self.new)?;
         seen.dropped += self.rows(false).count() as u64;
         seen.left += self.rows(true).count() as u64;
         seen.kinds |= self.rows(false).fold(0, |all, (_, kind)| all | 1 << kind);
@@ -335,9 +346,7 @@ impl<'a> Trim<'a> {
         let expected = (self.rule.strict_verdict)(&self.choice, &old_strict);
         let follows = match expected {
             Some(expected) => strict == expected,
-            None => {
-                strict == verdict || strict[0] == 38 && strict[1] > self.rows(true).filter(|(row, _)| *row < old_strict[1]).count() as u64
-            }
+            None => strict == verdict || strict[0] == 38 && strict[1] > self.left_before(old_strict[1]),
         };
         if !follows {
             return Err(format!("the strict verdict is {strict:?}; it was {old_strict:?}, and {expected:?} follows"));
@@ -484,12 +493,11 @@ impl<'a> Trim<'a> {
             return Err(format!("row {row} has to remain; the rule names {faults:?}"));
         }
         let needed = self.image.rows().nth(row as usize - 1).unwrap();
-        let naming: Vec<u64> = match needed.area() {
-            Some(area) => (1..).zip(self.left.rows()).filter(|(_, row)| row.area() == Some(area)).map(|(row, _)| row).collect(),
-            None => Vec::new(),
-        };
+        let names = |other: &Row| needed.area().is_some() && other.area() == needed.area();
+        let naming = (1..).zip(self.image.rows()).zip(self.choice.kept).filter(|((_, other), kept)| **kept && names(other));
+        let naming: Vec<(u64, u32)> = naming.map(|((row, other), _)| (row, other.kind)).collect();
         let follows = match (needed.kind, verdict[0]) {
-            (33, _) => verdict == [32, naming[0], 0, 0, 0, 0],
+            (33, _) => verdict == [32, self.left_before(naming[0].0) + 1, 0, 0, 0, 0],
             (_, 0) => verdict == (self.rule.verdict)(&self.choice, &old),
             (1, number) => matches!(number, 15 | 25),
             (_, number) => number == 34,
@@ -497,7 +505,8 @@ impl<'a> Trim<'a> {
         if !follows {
             return Err(format!("without row {row}, which has to remain, the verdict is {verdict:?}; it was {old:?}"));
         }
-        let is_insert = |row: &u64| self.left.rows().nth(*row as usize - 1).unwrap().kind == 50;
+        seen.by_crate += host::refused(random, &self.choice, (row, needed), naming.first().map(|(row, _)| *row))?;
+        let by_insert = naming.iter().all(|(_, kind)| *kind == 50);
         let is_context = matches!(needed.kind, 47 | 48);
         seen.columns.met(
             BROKEN,
@@ -506,8 +515,8 @@ impl<'a> Trim<'a> {
                 needed.kind == 48 && verdict[0] == 34,
                 is_context && strict[0] == 38 && old_strict[0] == 0,
                 is_context && strict[0] == 0 && old_strict[0] == 0,
-                needed.kind == 33 && !naming.iter().all(is_insert),
-                needed.kind == 33 && naming.iter().all(is_insert),
+                needed.kind == 33 && !by_insert,
+                needed.kind == 33 && by_insert,
                 needed.kind == 1 && matches!(verdict[0], 15 | 25),
                 needed.kind == 1 && verdict[0] == 0,
             ],
@@ -522,6 +531,11 @@ impl<'a> Trim<'a> {
     fn rows(&self, remains: bool) -> impl Iterator<Item = (u64, u32)> + '_ {
         let rows = (1..).zip(self.image.rows()).zip(self.choice.kept);
         rows.filter(move |(_, kept)| **kept == remains).map(|((row, of), _)| (row, of.kind))
+    }
+
+    /// How many rows remain before this one of the image.
+    fn left_before(&self, row: u64) -> u64 {
+        self.rows(true).take_while(|(other, _)| *other < row).count() as u64
     }
 
     /// Of the mask's relocatable regions those that remain: the number and the row that each had.
@@ -588,4 +602,82 @@ impl<'a> Trim<'a> {
 /// The numbers of a verdict.
 fn numbers((numbers, _): Answer) -> [u64; 6] {
     numbers.try_into().unwrap()
+}
+
+/// Crate sapyullu's function on a sheet's bytes. Each gives 1, for one sheet or refusal.
+#[cfg(library)]
+mod host {
+    use crate::paper;
+    use crate::random::Random;
+    use crate::sheet::Row;
+    use crate::trimming::Choice;
+    use sapyullu::{Place, TrimError};
+
+    /// The places of the dropped rows, in any order, and the first of them twice.
+    fn dropped(random: &mut Random, choice: &Choice) -> Vec<Place> {
+        let rows = (1..).zip(choice.kept).filter(|(_, kept)| !**kept);
+        let mut places: Vec<Place> = rows.map(|(row, _)| place(choice, row)).collect();
+        random.shuffle(&mut places);
+        places.extend(places.first().copied());
+        places
+    }
+
+    fn place(choice: &Choice, row: u64) -> Place {
+        Place::of_row(choice.sheet, row).expect("a row of the sheet")
+    }
+
+    /// The sheet of the rows that remain is this one.
+    pub fn same_sheet(random: &mut Random, choice: &Choice, new: &[u8]) -> Result<u64, String> {
+        match sapyullu::trimmed(choice.sheet, dropped(random, choice)) {
+            Ok(sheet) if sheet == new => Ok(1),
+            Ok(_) => Err("sapyullu::trimmed makes another sheet of the rows that remain".into()),
+            Err(error) => Err(format!("sapyullu::trimmed refuses by {error:?} what may go")),
+        }
+    }
+
+    /// The one dropped row that has to remain is refused, an area with the first row that names it.
+    pub fn refused(random: &mut Random, choice: &Choice, (row, needed): (u64, &Row), named_by: Option<u64>) -> Result<u64, String> {
+        let place_of = |row: u64| place(choice, row);
+        let place = place_of(row);
+        let expected = match (needed.kind, needed.area(), named_by) {
+            (1, ..) => TrimError::PlatformHeader { place },
+            (33, Some(area), Some(named_by)) => {
+                TrimError::NamedParameterArea { place, parameter_area_index: area as u32, named_by: place_of(named_by) }
+            }
+            _ => TrimError::VbsVpContext { place },
+        };
+        match sapyullu::trimmed(choice.sheet, dropped(random, choice)) {
+            Err(error) if error == expected => Ok(1),
+            other => Err(format!("sapyullu::trimmed says {other:?}; {expected:?} follows")),
+        }
+    }
+
+    /// A refused image is refused as by the verdict, though no row is dropped.
+    pub fn refused_image(sheet: &[u8]) -> Result<u64, String> {
+        let verdict = paper::verdict(sheet);
+        match sapyullu::trimmed(sheet, []) {
+            Err(TrimError::Refused(refusal)) if [refusal.error.number(), refusal.row.unwrap_or(0), refusal.detail] == verdict[..3] => Ok(1),
+            other => Err(format!("sapyullu::trimmed says {other:?} of an image with the verdict {verdict:?}")),
+        }
+    }
+}
+
+/// Without the library this function can't be called.
+#[cfg(not(library))]
+mod host {
+    use crate::random::Random;
+    use crate::sheet::Row;
+    use crate::trimming::Choice;
+
+    pub fn same_sheet(_: &mut Random, _: &Choice, _: &[u8]) -> Result<u64, String> {
+        Ok(0)
+    }
+
+    pub fn refused(_: &mut Random, _: &Choice, _: (u64, &Row), _: Option<u64>) -> Result<u64, String> {
+        Ok(0)
+    }
+
+    pub fn refused_image(_: &[u8]) -> Result<u64, String> {
+        Ok(0)
+    }
 }
