@@ -161,9 +161,12 @@ fn all(calls: &Calls, o: &Options) -> Result<(), String> {
     region_bytes(calls, o)?;
     adapter::run(calls, o.seed, o.cases / 5, o.threads)?;
     order::run(calls, o.seed, o.cases / 20, o.threads)?;
-    trimmed::run(calls, o.seed, o.cases / 20, o.threads)?;
+    trimmed::run(calls, o.seed, (o.cases / 20).max(TRIMMED), o.threads)?;
     wrong_copies(o)
 }
+
+/// The fewest images to be trimmed: among so many is all that must be met.
+const TRIMMED: u64 = 5000;
 
 /// Every refusal was met, and every one of the Rust's domain in a comparison with the Rust.
 fn every_refusal(tally: &Tally) -> Result<(), String> {
