@@ -320,13 +320,14 @@ impl<'a> Trim<'a> {
             let verdict = answer(self.calls, &sheet, Call::Verdict).0;
             return Err(format!("the rule makes another sheet of the rows that remain, of which the verdict is {verdict:?}"));
         }
-        seen.by_crate += host::same_sheet(random, &self.choice, &self.new)?;
+        seen.by_crate += host::same_sheet(random.next(), &self.choice, &self.new)?;
         seen.dropped += self.rows(false).count() as u64;
         seen.left += self.rows(true).count() as u64;
         seen.kinds |= self.rows(false).fold(0, |all, (_, kind)| all | 1 << kind);
         seen.columns.met(0, &self.columns());
         self.same_verdicts(random, seen)?;
-        for mask in masks(random, self.image) {
+        let masks = masks(random, self.image);
+        for mask in [random.pick(&masks), random.pick(&masks)] {
             self.same_list(random, mask, seen)?;
             self.same_owners(random, mask, seen)?;
             self.same_index(random, mask, seen)?;
@@ -505,7 +506,7 @@ impl<'a> Trim<'a> {
         if !follows {
             return Err(format!("without row {row}, which has to remain, the verdict is {verdict:?}; it was {old:?}"));
         }
-        seen.by_crate += host::refused(random, &self.choice, (row, needed), naming.first().map(|(row, _)| *row))?;
+        seen.by_crate += host::refused(random.next(), &self.choice, (row, needed), naming.first().map(|(row, _)| *row))?;
         let by_insert = naming.iter().all(|(_, kind)| *kind == 50);
         let is_context = matches!(needed.kind, 47 | 48);
         seen.columns.met(
@@ -613,11 +614,11 @@ mod host {
     use crate::trimming::Choice;
     use sapyullu::{Place, TrimError};
 
-    /// The places of the dropped rows, in any order, and the first of them twice.
-    fn dropped(random: &mut Random, choice: &Choice) -> Vec<Place> {
+    /// The places of the dropped rows, in an order that differs from case to case, and the first of them twice.
+    fn dropped(case: u64, choice: &Choice) -> Vec<Place> {
         let rows = (1..).zip(choice.kept).filter(|(_, kept)| !**kept);
         let mut places: Vec<Place> = rows.map(|(row, _)| place(choice, row)).collect();
-        random.shuffle(&mut places);
+        Random::new(case, 0).shuffle(&mut places);
         places.extend(places.first().copied());
         places
     }
@@ -627,8 +628,8 @@ mod host {
     }
 
     /// The sheet of the rows that remain is this one.
-    pub fn same_sheet(random: &mut Random, choice: &Choice, new: &[u8]) -> Result<u64, String> {
-        match sapyullu::trimmed(choice.sheet, dropped(random, choice)) {
+    pub fn same_sheet(case: u64, choice: &Choice, new: &[u8]) -> Result<u64, String> {
+        match sapyullu::trimmed(choice.sheet, dropped(case, choice)) {
             Ok(sheet) if sheet == new => Ok(1),
             Ok(_) => Err("sapyullu::trimmed makes another sheet of the rows that remain".into()),
             Err(error) => Err(format!("sapyullu::trimmed refuses by {error:?} what may go")),
@@ -636,7 +637,7 @@ mod host {
     }
 
     /// The one dropped row that has to remain is refused, an area with the first row that names it.
-    pub fn refused(random: &mut Random, choice: &Choice, (row, needed): (u64, &Row), named_by: Option<u64>) -> Result<u64, String> {
+    pub fn refused(case: u64, choice: &Choice, (row, needed): (u64, &Row), named_by: Option<u64>) -> Result<u64, String> {
         let place_of = |row: u64| place(choice, row);
         let place = place_of(row);
         let expected = match (needed.kind, needed.area(), named_by) {
@@ -646,7 +647,7 @@ mod host {
             }
             _ => TrimError::VbsVpContext { place },
         };
-        match sapyullu::trimmed(choice.sheet, dropped(random, choice)) {
+        match sapyullu::trimmed(choice.sheet, dropped(case, choice)) {
             Err(error) if error == expected => Ok(1),
             other => Err(format!("sapyullu::trimmed says {other:?}; {expected:?} follows")),
         }
@@ -665,15 +666,14 @@ mod host {
 /// Without the library this function can't be called.
 #[cfg(not(library))]
 mod host {
-    use crate::random::Random;
     use crate::sheet::Row;
     use crate::trimming::Choice;
 
-    pub fn same_sheet(_: &mut Random, _: &Choice, _: &[u8]) -> Result<u64, String> {
+    pub fn same_sheet(_: u64, _: &Choice, _: &[u8]) -> Result<u64, String> {
         Ok(0)
     }
 
-    pub fn refused(_: &mut Random, _: &Choice, _: (u64, &Row), _: Option<u64>) -> Result<u64, String> {
+    pub fn refused(_: u64, _: &Choice, _: (u64, &Row), _: Option<u64>) -> Result<u64, String> {
         Ok(0)
     }
 
