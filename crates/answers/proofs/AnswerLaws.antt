@@ -1,12 +1,12 @@
 -- What is known of a sheet where a call is not refused.
-use Rattle.rows.{proofs.Kit.{_≡_, refl, _∙_, Bool, false, false≢true, not, not-false, List, _≢_, Option, none, some, ℕ, _*_, _/_, _≤_, _<_, eqb, ltb, ltb-false, ltb-true, eqb-false, arith}, specs.Below.nthBelow, specs.Rows.{Rows, rowAt}, proofs.Bools.and-parts, proofs.BelowLaws.{nth-says, nth-none}}
-use Rattle.igvm_defs.{specs.declared.Refusal.Refusal, specs.Refusals.{noFault, noRefusal, isRefusal, inRow}, proofs.RefusalLaws.{row-refusal, orElse-later, no-fault-row}}
+use Rattle.rows.{proofs.Kit.{_≡_, refl, _∙_, Bool, true, false, cond, false≢true, not, not-false, List, _≢_, Option, none, some, ℕ, _*_, _/_, _≤_, _<_, eqb, ltb, ltb-false, ltb-true, le-ltb, eqb-false, ne-eqb, arith}, specs.Below.nthBelow, specs.Rows.{Rows, rowAt}, proofs.Bools.and-parts, proofs.BelowLaws.{nth-says, nth-none}}
+use Rattle.igvm_defs.{specs.declared.Refusal.Refusal, specs.Refusals.{noFault, noRefusal, isFault, isRefusal, inRow}, proofs.RefusalLaws.{no-fault, row-refusal, orElse-later, no-fault-row}}
 use Rattle.sheet.{specs.Head.Limits, specs.Read.{Readable, sheetRefusal}, proofs.Readable.sheet-says}
 use Rattle.sheet_headers.specs.Headers.{sheetHeaders}
 use Rattle.masks.specs.Masks.{matches}
 use Rattle.initialization_header.{specs.declared.IgvmInitializationHeader.IgvmInitializationHeader, specs.Fields.{initializationFields, kindNumber}}
-use Rattle.rules.{specs.declared.PageTableRegion.PageTableRegion, specs.Accepted.NotRefused, specs.Relocations.{isRelocatable, relocatableOf, regionCount, regionAt}, specs.Options.then, proofs.FaultLaws.{refuse-none, else-none}, proofs.VerdictLaws.headers-none}
-use Rattle.answers.specs.{declared.Answered.Answered, Verdict.verdictRefusal, Relocations.{sheetInitializations, maskFault, wordsFault, relocationsRefusal, foundOf, regionFault, checkRefusal}}
+use Rattle.rules.{specs.declared.PageTableRegion.PageTableRegion, specs.Accepted.NotRefused, specs.Relocations.{isRelocatable, relocatableOf, regionCount, regionAt, pageTableAt}, specs.Options.then, proofs.FaultLaws.{refuse-none, else-none}, proofs.VerdictLaws.headers-none}
+use Rattle.answers.specs.{declared.Answered.Answered, Verdict.verdictRefusal, Relocations.{sheetInitializations, maskFault, wordsFault, relocationsRefusal, foundOf, relocationsOf, regionFault, checkRefusal}}
 
 -- a named answer, by its refusal and its number
 abbrev pub answered : Refusal → ℕ → Answered
@@ -74,3 +74,34 @@ check-says l s given region f =
 pub found-count : (count : ℕ) (table : Option PageTableRegion) (r : Refusal) → foundOf count table r .count ≡ count
 found-count count none r = refl
 found-count count (some t) r = refl
+
+found-refusal : (refused : Bool) (count : ℕ) (table : Option PageTableRegion) (r : Refusal)
+    → cond refused (foundOf 0 none r) (foundOf count table r) .refusal ≡ r
+found-refusal true count table r = refl
+found-refusal false count none r = refl
+found-refusal false count (some t) r = refl
+
+-- the refusal in a region list's answer
+pub list-refusal : (l : Limits) (s : List ℕ) (given bytes : ℕ) → relocationsOf l s given bytes .refusal ≡ relocationsRefusal l s given bytes
+unfolding relocationsOf
+list-refusal l s given bytes =
+    let r = relocationsRefusal l s given bytes in
+    found-refusal (isRefusal r) (regionsOf s given) (pageTableAt (sheetInitializations s) given) r
+
+-- an accepted sheet, a mask that is not 0 and room for the words: nothing is refused
+pub list-fine : (l : Limits) (s : List ℕ) (given bytes : ℕ) → isRefusal (verdictRefusal l s) ≡ false → given ≢ 0
+    → 8 * regionsOf s given ≤ bytes / 8 → relocationsRefusal l s given bytes ≡ noRefusal
+unfolding relocationsRefusal maskFault wordsFault
+list-fine l s given bytes v n r =
+    let a : isFault (maskFault given) ≡ false = rw (ne-eqb given 0 n) no-fault in
+    rw (
+      orElse-later (verdictRefusal l s) _ v,
+      orElse-later (inRow 0 (maskFault given)) _ (row-refusal 0 (maskFault given) ∙ a),
+      le-ltb (bytes / 8) (8 * regionsOf s given) r,
+    ) (no-fault-row 0 noFault no-fault)
+
+-- and the answer is the regions of the mask
+pub list-found : (l : Limits) (s : List ℕ) (given bytes : ℕ) → isRefusal (relocationsRefusal l s given bytes) ≡ false
+    → relocationsOf l s given bytes ≡ foundOf (regionsOf s given) (pageTableAt (sheetInitializations s) given) (relocationsRefusal l s given bytes)
+unfolding relocationsOf
+list-found l s given bytes f = rw f

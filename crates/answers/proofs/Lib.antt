@@ -1,4 +1,5 @@
 pub mod AnswerLaws
+pub mod SameRegion
 pub mod StrictLaws
 pub mod ReportLaws
 pub mod OwnerLaws

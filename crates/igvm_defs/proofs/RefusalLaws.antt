@@ -1,6 +1,6 @@
 -- Laws of faults and refusals: whether there is one, as an equation, and which one it is.
 use lib.Dec.{eqb·suc-zero}
-use Rattle.rows.{proofs.Kit.{_≡_, refl, sym, ap, _∙_, Bool, true, false, not, cond, _||_, _≢_, _↔_, Option, none, some, ℕ, zero, suc, _+_, _-_, _<_, arith, decLt, eqb, eqb-true, ne-eqb, not-false}, specs.Below.{anyBelow, firstBelow}, proofs.BelowLaws.{any-below, none-any, first-any, first-none, first-at, first-says}}
+use Rattle.rows.{proofs.Kit.{_≡_, refl, sym, ap, _∙_, Bool, true, false, not, cond, _||_, _≢_, _↔_, Option, none, some, ℕ, zero, suc, _+_, _-_, _<_, arith, decLt, eqb, eqb-true, ne-eqb, not-false}, specs.Below.{anyBelow, firstBelow}, proofs.BelowLaws.{any-below, none-any, first-any, first-none, first-at, first-says, first-same-tests}}
 use Rattle.igvm_defs.specs.{declared.Refusal.Refusal, declared.Fault.Fault, Refusals.{refusal, noRefusal, fault, noFault, refuse, orFault, Then, isFault, isRefusal, inRow, orElse, refusalAt, firstFault}}
 
 -- ---- whether there is a fault, a refusal
@@ -76,13 +76,11 @@ module _ (first n : ℕ) (f : ℕ → Fault) where
 
 -- rows with the same faults
 pub faults-same : (first n : ℕ) (f g : ℕ → Fault) → ((i : ℕ) → i < n → f i ≡ g i) → firstFault first n f ≡ firstFault first n g
-unfolding firstFault firstBelow
-faults-same first n f g h = go (firstBelow n (λ i. isFault (f i))) refl ∙ ap (refusalAt first g) (tests n (λ i l. ap isFault (h i l)))
+unfolding firstFault
+faults-same first n f g h =
+    go (firstBelow n (λ i. isFault (f i))) refl
+    ∙ ap (refusalAt first g) (first-same-tests n (λ i. isFault (f i)) (λ i. isFault (g i)) (λ i l. ap isFault (h i l)))
   where
-    tests : (m : ℕ) → ((i : ℕ) → i < m → isFault (f i) ≡ isFault (g i)) → firstBelow m (λ i. isFault (f i)) ≡ firstBelow m (λ i. isFault (g i))
-    tests zero e = refl
-    tests (suc m) e = rw (tests m (λ i l. e i (omega arith)), e m (omega arith))
-
     go : (o : Option ℕ) → firstBelow n (λ i. isFault (f i)) ≡ o → refusalAt first f o ≡ refusalAt first g o
     go none e = refl
     go (some i) e = rw (h i (first-says n (λ i. isFault (f i)) i e .0))

@@ -1,1 +1,2 @@
 pub mod LeLaws
+pub mod BytesLaws

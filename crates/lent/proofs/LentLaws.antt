@@ -1,8 +1,7 @@
 -- Laws of lent bytes. A store past the end changes nothing, so only laws that read a byte ask for room.
-use native.Mathlib.Nat.{mul-comm, mod-eq-of-lt, zero-div}
-use lib.Arith.{mod-mul}
+use native.Mathlib.Nat.{mod-eq-of-lt, zero-div}
 use Rattle.rows.{proofs.Kit.{ℕ, zero, suc, _+_, _-_, _*_, _/_, _%_, _^_, _≤_, _<_, add-zero, zero-add, not-suc-le-zero, le-of-suc-le-suc, pow-succ', decLt, arith, _≡_, refl, sym, ap, _∙_, Bool, true, cond, _&&_, and-false, List, [], _∷_, eqb, leb, ltb, length, getD, set, List·getD-eq-default, eqb-true, leb-true, ltb-true, eq-eqb, ne-eqb, le-leb, lt-leb, lt-ltb, le-ltb}, specs.Below.sumBelow, proofs.Bools.{same-test, and-parts, cond-same}, proofs.BelowLaws.sum-cong}
-use Rattle.le.specs.Le.{byteAt, leAt, byteOf}
+use Rattle.le.{specs.Le.{byteAt, leAt, byteOf}, proofs.BytesLaws.bytes-say}
 use Rattle.lent.specs.Lent.{eachFrom, each, bytesPut, wordPut, wordsPut, rowPut, rowsPut, numbersPut}
 
 -- ---- each byte from place i on
@@ -288,17 +287,6 @@ rows-copied count row z b h =
     (put-same 0 (64 * count) _ _ b (λ j l g. put-at 0 (64 * count) (rowsByte row) z j l g (omega arith)))
 
 -- ---- words read back
-
-power-pos : (w : ℕ) → 0 < 256 ^ w
-power-pos zero = omega arith
-power-pos (suc w) = let h = power-pos w in rw (pow-succ' 256 w) (omega arith)
-
--- the bytes of a number say it
-pub bytes-say : (w v : ℕ) → sumBelow w (λ k. 256 ^ k * byteOf k v) ≡ v % 256 ^ w
-unfolding sumBelow byteOf
-bytes-say zero v = omega arith
-bytes-say (suc w) v =
-    rw (bytes-say w v, pow-succ', mod-mul v {m = 256} {c = 256 ^ w} (omega arith) (power-pos w), mul-comm (256 ^ w) (v / 256 ^ w % 256)) (omega arith)
 
 module _ (count : ℕ) (row : ℕ → List ℕ) (b : List ℕ) (room : 64 * count ≤ length b) where
   byte-is : (n k m : ℕ) → n < count → k < 8 → m < 8 → byteAt (rowsPut count row b) (64 * n + 8 * k + m) ≡ byteOf m (getD (row n) k 0)

@@ -1,32 +1,17 @@
--- What the queries answer of two accepted sheets that have as many regions of a mask, the same page table and the same region.
-use Rattle.rows.{proofs.Kit.{_≡_, refl, ap, Bool, true, false, cond, List, _≢_, Option, none, some, ℕ, _+_, _*_, _/_, _<_, arith, length, lt-ltb}, proofs.Bools.cond-same}
+-- What the region list answers of two accepted sheets that have as many regions of a mask, the same page table and the same region.
+use Rattle.rows.{proofs.Kit.{_≡_, refl, ap, false, List, _≢_, ℕ, _+_, _*_, _/_, _<_, arith, length}, proofs.Bools.cond-same}
 use Rattle.le.specs.Le.{leAt}
-use Rattle.igvm_defs.{specs.declared.Refusal.Refusal, specs.Refusals.isRefusal, proofs.RefusalLaws.orElse-later}
+use Rattle.igvm_defs.{specs.Refusals.isRefusal, proofs.RefusalLaws.orElse-later}
 use Rattle.lent.proofs.LentLaws.{same-words}
 use Rattle.sheet.specs.Head.{Limits}
-use Rattle.rules.{specs.declared.IgvmRelocatableRegion.IgvmRelocatableRegion, specs.declared.PageTableRegion.PageTableRegion, specs.Relocations.{regionAt, pageTableAt}}
-use Rattle.answers.{proofs.AnswerLaws.{regionsOf, list-says, found-count}, specs.Verdict.verdictRefusal, specs.Relocations.{sheetInitializations, wordsFault, relocationsRefusal, foundOf, relocationsOf, regionWords, wordsAfter, regionFault, checkRefusal, answerOf}, specs.BaseRanges.{rangeRefusal, baseRangeOf}}
+use Rattle.rules.specs.Relocations.{regionAt, pageTableAt}
+use Rattle.answers.{proofs.AnswerLaws.{regionsOf, list-says, found-count, list-refusal, list-found}, specs.Verdict.verdictRefusal, specs.Relocations.{sheetInitializations, wordsFault, relocationsRefusal, relocationsOf, regionWords, wordsAfter}}
 use Rattle.order.specs.Demand.{Accepted}
-
--- ---- the region list
-
-found-refusal : (refused : Bool) (count : ℕ) (table : Option PageTableRegion) (r : Refusal)
-    → cond refused (foundOf 0 none r) (foundOf count table r) .refusal ≡ r
-found-refusal true count table r = refl
-found-refusal false count none r = refl
-found-refusal false count (some t) r = refl
-
-list-refusal : (l : Limits) (s : List ℕ) (given bytes : ℕ) → relocationsOf l s given bytes .refusal ≡ relocationsRefusal l s given bytes
-unfolding relocationsOf
-list-refusal l s given bytes =
-    let r = relocationsRefusal l s given bytes in
-    found-refusal (isRefusal r) (regionsOf s given) (pageTableAt (sheetInitializations s) given) r
 
 list-count : (l : Limits) (s : List ℕ) (given bytes : ℕ) → isRefusal (relocationsRefusal l s given bytes) ≡ false
     → relocationsOf l s given bytes .count ≡ regionsOf s given
-unfolding relocationsOf
 list-count l s given bytes f =
-    rw f (found-count (regionsOf s given) (pageTableAt (sheetInitializations s) given) (relocationsRefusal l s given bytes))
+    rw (list-found l s given bytes f) (found-count (regionsOf s given) (pageTableAt (sheetInitializations s) given) (relocationsRefusal l s given bytes))
 
 module _ (l : Limits) (a b : List ℕ) (va : Accepted l a) (vb : Accepted l b) (given : ℕ) (counts : regionsOf a given ≡ regionsOf b given) where
   list-refusal-same : (bytes bytes' : ℕ) → bytes / 8 ≡ bytes' / 8 → relocationsRefusal l a given bytes ≡ relocationsRefusal l b given bytes'
@@ -53,20 +38,3 @@ module _ (l : Limits) (a b : List ℕ) (va : Accepted l a) (vb : Accepted l b) (
       let rb = list-says l b given (length y) fb .2 in
       rw (list-count l a given (length x) fa, list-count l b given (length y) fb)
       (same-words (regionsOf a given) (regionsOf b given) _ _ x y (omega arith) (omega arith) n m k ln lm lk (ap regionWords e))
-
-  -- ---- checks on one region, which is the same, by its numbers n and m
-  module _ (n m : ℕ) (ln : n < regionsOf a given) (lm : m < regionsOf b given)
-      (e : regionAt (sheetInitializations a) given n ≡ regionAt (sheetInitializations b) given m) where
-    check-refusal-same : checkRefusal l a given n ≡ checkRefusal l b given m
-    unfolding checkRefusal regionFault
-    check-refusal-same =
-        rw (orElse-later (verdictRefusal l a) _ va, orElse-later (verdictRefusal l b) _ vb)
-        (rw (lt-ltb n (regionsOf a given) ln, lt-ltb m (regionsOf b given) lm))
-
-    pub answer-same : (f : IgvmRelocatableRegion → ℕ) → answerOf f l a given n ≡ answerOf f l b given m
-    unfolding answerOf
-    answer-same f = rw (check-refusal-same, e)
-
-    pub range-same : (lowest highest : ℕ) → baseRangeOf l a given n lowest highest ≡ baseRangeOf l b given m lowest highest
-    unfolding baseRangeOf rangeRefusal
-    range-same lowest highest = rw (check-refusal-same, e)

@@ -3,9 +3,9 @@ use Rattle.rows.proofs.Kit.{_≡_, sym, List, ℕ, _<_}
 use Rattle.sheet.{specs.Head.{Limits, headOf}, specs.Read.{Readable, sheetRefusal}, proofs.Readable.sheet-says}
 use Rattle.sheet_headers.specs.Headers.{sheetHeaders}
 use Rattle.rules.{specs.Accepted.NotRefused, specs.Relocations.regionAt, proofs.FaultLaws.else-none, proofs.Order.{reordered-sym, same-answers}, proofs.QueryLaws.number-below, proofs.SoundLaws.accepted-sound, proofs.StrictLaws.same-bits}
-use Rattle.answers.{proofs.AnswerLaws.{regionsOf, accepted-headers}, proofs.StrictLaws.strictly-accepted, specs.Verdict.verdictRefusal, specs.Relocations.{sheetInitializations, baseNumber}}
+use Rattle.answers.{proofs.AnswerLaws.{regionsOf, accepted-headers}, proofs.SameRegion.{answer-same, range-same}, proofs.StrictLaws.strictly-accepted, specs.Verdict.verdictRefusal, specs.Relocations.{sheetInitializations, baseNumber}}
 use Rattle.order.specs.{Reordered.Reordered, Demand.{Accepted, IsRegion, numberIn, SameAnswers}, Ranges.SameRanges, Owners.SameOwners, Strict.SameStrict}
-use Rattle.order.proofs.{ReadableToo.{heads, readable-too}, Lists.{paired-in, headers-reordered}, Answers.{list-same, words-same, answer-same, range-same}, Owners.{refusal-same, owner-partner, no-owner-too, index-same, places-same}}
+use Rattle.order.proofs.{ReadableToo.{heads, readable-too}, Lists.{paired-in, headers-reordered}, Answers.{list-same, words-same}, Owners.{refusal-same, owner-partner, no-owner-too, index-same, places-same}}
 use Rattle.rules.specs.Reordered as rules
 
 -- of readable sheets with one head, whether 8 to 34 apply decides
@@ -54,14 +54,14 @@ module _ (l : Limits) (a b : List ℕ) (ok : Readable l a) (R : Reordered a b) w
         words = λ v given i r.
             words-same l a b v (there v) given (S .count given) _ _ (number-in a given i r) (number-in b given _ (region given i r)) (found given i r);
         base = λ v given i r base.
-            answer-same l a b v (there v) given (S .count given) _ _ (number-in a given i r) (number-in b given _ (region given i r)) (found given i r) (baseNumber base);
+            answer-same l a b v (there v) given _ _ (number-in a given i r) (number-in b given _ (region given i r)) (found given i r) (baseNumber base);
         sound = λ v. (accepted-sound (sheetHeaders a) (accepted-headers l a v), accepted-sound (sheetHeaders b) (accepted-headers l b (there v)));
       }
 
   -- and ranges of bases beside it
   pub same-ranges : SameRanges l a b R
   same-ranges v given i r lowest highest =
-      range-same l a b v (there v) given (S .count given) _ _ (number-in a given i r) (number-in b given _ (region given i r)) (found given i r) lowest highest
+      range-same l a b v (there v) given _ _ (number-in a given i r) (number-in b given _ (region given i r)) (found given i r) lowest highest
 
   -- and the owner of an address, and the index of a mask's regions
   pub same-owners : SameOwners l a b R

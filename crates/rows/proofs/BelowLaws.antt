@@ -78,6 +78,11 @@ first-says (suc n) p i h = go (first-says n p i) (firstBelow n p) refl (p n) ref
     go rest none e true f g = let q : n ≡ i = cc in (omega arith, rw q at f, λ j l. none-first n p e j (omega arith))
     go rest none e false f g = absurd (false≢true (cc))
 
+pub first-same-tests : (n : ℕ) (p q : ℕ → Bool) → ((i : ℕ) → i < n → p i ≡ q i) → firstBelow n p ≡ firstBelow n q
+unfolding firstBelow
+first-same-tests zero p q h = refl
+first-same-tests (suc n) p q h = rw (h n (omega arith), first-same-tests n p q (λ i l. h i (omega arith)))
+
 -- ---- lastBelow
 
 -- index i passes, and none after it
@@ -236,6 +241,31 @@ nth-none (suc n) p k h =
           ]
       | inr e ↦ let l = nth-none n p k (rw e at h) in rw e (omega arith)
     ]
+
+-- where there are so many, one is
+pub nth-some : (n : ℕ) (p : ℕ → Bool) (k : ℕ) → k < countBelow n p → (i : ℕ) × (nthBelow n p k ≡ some i)
+nth-some n p k l = go (nthBelow n p k) refl
+  where
+    go : (o : Option ℕ) → nthBelow n p k ≡ o → (i : ℕ) × (nthBelow n p k ≡ some i)
+    go none e = let m = nth-none n p k e in absurd (omega arith)
+    go (some i) e = (i, e)
+
+pub nth-few : (n : ℕ) (p : ℕ → Bool) (k : ℕ) → countBelow n p ≤ k → nthBelow n p k ≡ none
+nth-few n p k l = go (nthBelow n p k) refl
+  where
+    go : (o : Option ℕ) → nthBelow n p k ≡ o → nthBelow n p k ≡ none
+    go none e = e
+    go (some i) e = let (b, g, c) = nth-says n p k i e in let d = count-lt i n p b g in absurd (omega arith)
+
+pub nth-same-tests : (n : ℕ) (p q : ℕ → Bool) (k : ℕ) → ((i : ℕ) → i < n → p i ≡ q i) → nthBelow n p k ≡ nthBelow n q k
+unfolding nthBelow
+nth-same-tests zero p q k h = refl
+nth-same-tests (suc n) p q k h =
+    rw (
+      h n (omega arith),
+      count-same-tests n p q (λ i l. h i (omega arith)),
+      nth-same-tests n p q k (λ i l. h i (omega arith)),
+    )
 
 pub nth-more : {A : Type 0} (f : Option ℕ → A) (n : ℕ) (p : ℕ → Bool) (k : ℕ)
     → f (nthBelow (n + 1) p k) ≡ cond (p n && eqb (countBelow n p) k) (f (some n)) (f (nthBelow n p k))

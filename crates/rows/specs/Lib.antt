@@ -1,4 +1,5 @@
 pub mod Below
 pub mod Rows
 pub mod Same
+pub mod Lists
 pub mod Paired

@@ -11,6 +11,7 @@ pub mod OwnerLaws
 pub mod OwnerOrder
 pub mod StrictLaws
 pub mod SameRules
+pub mod SameHeaders
 pub mod KeptLaws
 pub mod ReportLaws
 pub mod SkippedLaws
