@@ -280,6 +280,14 @@ rows-more n row b =
     (sym (put-join 0 (64 * n) (64 * n + 64) (rowsByte row) (λ j. byteOf (j % 8) (getD (row n) (j / 8 % 8) 0)) b (omega arith) (omega arith)
     (λ j h g. let p : n ≡ j / 64 = omega arith in rw p)))
 
+-- by equal rows
+pub rows-same : (count : ℕ) (row other : ℕ → List ℕ) (b : List ℕ) → ((n : ℕ) → n < count → row n ≡ other n) → rowsPut count row b ≡ rowsPut count other b
+unfolding rowsByte
+rows-same count row other b h =
+    rows-put count row b
+    ∙ put-same 0 (64 * count) (rowsByte row) (rowsByte other) b (λ j l g. rw (h (j / 64) (omega arith)))
+    ∙ sym (rows-put count other b)
+
 -- rows that were put into other bytes, copied
 pub rows-copied : (count : ℕ) (row : ℕ → List ℕ) (z b : List ℕ) → 64 * count ≤ length z → bytesPut 0 (64 * count) (λ j. byteAt (rowsPut count row z) j) b ≡ rowsPut count row b
 rows-copied count row z b h =

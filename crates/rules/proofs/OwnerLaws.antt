@@ -1,6 +1,6 @@
 -- The owner of an address, and the regions of a mask in order of start: at most one region owns an address, no two start at one address,
 -- and each region of the mask stands at one place below their count.
-use Rattle.rows.{proofs.Kit.{_≡_, refl, sym, ap, _∙_, Bool, true, false, cond, _&&_, _≢_, _↔_, _⊎_, inl, inr, Option, none, some, ℕ, zero, suc, _+_, _*_, _/_, _%_, _≤_, _<_, not-suc-le-zero, decLt, ℕ-discrete, arith, eqb, ltb, eqb-true, eqb-false, eq-eqb, le-leb, ltb-true, ltb-false, lt-ltb}, specs.Below.{anyBelow, sumBelow, countBelow}, specs.Rows.{Rows, Once}, proofs.Bools.{which, is-false, and-parts, and-both}, proofs.BelowLaws.{top, some-below, none-any, first-none, first-at, first-says, sum-le, count-none}}
+use Rattle.rows.{proofs.Kit.{_≡_, refl, sym, ap, _∙_, Bool, true, false, cond, _&&_, _≢_, _↔_, _⊎_, inl, inr, Option, none, some, ℕ, zero, suc, _+_, _*_, _/_, _%_, _≤_, _<_, not-suc-le-zero, decLt, ℕ-discrete, arith, eqb, ltb, eqb-true, eqb-false, eq-eqb, le-leb, ltb-true, ltb-false, lt-ltb}, specs.Below.{anyBelow, firstBelow, sumBelow, countBelow}, specs.Rows.{Rows, Once}, proofs.Bools.{which, is-false, and-parts, and-both}, proofs.BelowLaws.{top, some-below, none-any, first-none, first-at, first-says, sum-le, count-none}}
 use Rattle.addresses.specs.Addresses.{contains, endsBeyond}
 use Rattle.initialization_header.specs.declared.IgvmInitializationHeader.{IgvmInitializationHeader}
 use Rattle.rules.specs.{declared.Region.Region, Regions.{regionOf, regionPasses}, Initializations.{validateInitialization, wrongPolicyArch, ownInitializationFault}, Headers.Headers, Accepted.NotRefused, Sound.{MatchingRegion, Sound}, Owner.{isOfMask, ownsAddress, numberOfRow, ownerOf, indexCount, startsBelow, isInPlace, byStart, indexedRow, indexWord}}
@@ -30,18 +30,41 @@ owner-once f sound given n gpa i j l k g h = go (ℕ-discrete i j)
         absurd (sound .apart given n i j r q (record { below = l; region = o; matching = m }) (record { below = k; region = p; matching = w }) d gpa c e)
 
 module _ (f : Headers) (given gpa : ℕ) where
+  -- row i owns the address
+  abbrev pub owns : ℕ → Bool
+  owns i = regionPasses (ownsAddress given gpa) (f .initializations .row i)
+
   -- where one row at most owns the address, a row that does is the owner
-  pub owner-is : Once (regionPasses (ownsAddress given gpa)) (f .initializations)
-      → (i : ℕ) → i < f .initializations .count → regionPasses (ownsAddress given gpa) (f .initializations .row i) ≡ true
+  pub owner-is : Once (regionPasses (ownsAddress given gpa)) (f .initializations) → (i : ℕ) → i < f .initializations .count → owns i ≡ true
       → ownerOf f given gpa ≡ numberOfRow f (some i)
   unfolding ownerOf
   owner-is once i l g =
-      rw (first-at (f .initializations .count) (λ j. regionPasses (ownsAddress given gpa) (f .initializations .row j)) i l
-      (λ j k. is-false (regionPasses (ownsAddress given gpa) (f .initializations .row j)) (λ h. let q = once j i (omega arith) l h g in omega arith)) g)
+      rw (first-at (f .initializations .count) owns i l (λ j k. is-false (owns j) (λ h. let q = once j i (omega arith) l h g in omega arith)) g)
 
-  pub owner-none : ((i : ℕ) → i < f .initializations .count → regionPasses (ownsAddress given gpa) (f .initializations .row i) ≡ false) → ownerOf f given gpa ≡ 0
+  pub owner-none : ((i : ℕ) → i < f .initializations .count → owns i ≡ false) → ownerOf f given gpa ≡ 0
   unfolding ownerOf
-  owner-none h = rw (first-none (f .initializations .count) (λ i. regionPasses (ownsAddress given gpa) (f .initializations .row i)) .1 h)
+  owner-none h = rw (first-none (f .initializations .count) owns .1 h)
+
+  -- the row that is the owner owns the address
+  pub owner-says : (i : ℕ) → ownerOf f given gpa ≡ numberOfRow f (some i) → (i < f .initializations .count) × (owns i ≡ true)
+  unfolding ownerOf
+  owner-says i e = go (firstBelow (f .initializations .count) owns) refl e
+    where
+      go : (o : Option ℕ) → firstBelow (f .initializations .count) owns ≡ o → numberOfRow f o ≡ numberOfRow f (some i) → (i < f .initializations .count) × (owns i ≡ true)
+      go none q n = absurd (omega arith)
+      go (some j) q n =
+          let (l, t, _) = first-says (f .initializations .count) owns j q in
+          let z : j ≡ i = omega arith in
+          (omega arith, rw z at t)
+
+  -- where there is none, no row owns the address
+  pub none-owns : ownerOf f given gpa ≡ 0 → (i : ℕ) → i < f .initializations .count → owns i ≡ false
+  unfolding ownerOf
+  none-owns e = go (firstBelow (f .initializations .count) owns) refl e
+    where
+      go : (o : Option ℕ) → firstBelow (f .initializations .count) owns ≡ o → numberOfRow f o ≡ 0 → (i : ℕ) → i < f .initializations .count → owns i ≡ false
+      go none q n = first-none (f .initializations .count) owns .0 q
+      go (some j) q n = absurd (omega arith)
 
 -- ---- a region of an accepted file
 

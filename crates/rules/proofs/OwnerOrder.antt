@@ -1,34 +1,9 @@
 -- The owner of an address and the index of a mask's regions, of files whose rows pair off.
 use Rattle.rows.{proofs.Kit.{_≡_, refl, sym, ap, _∙_, Bool, true, false, _&&_, _≢_, Option, none, some, ℕ, _+_, _*_, _<_, arith, ltb}, specs.Below.firstBelow, proofs.BelowLaws.{first-none, first-says}, proofs.PairedLaws.{count-same, same-back}}
 use Rattle.rules.specs.{Headers.Headers, Regions.{regionOf, regionPasses}, Accepted.NotRefused, Reordered.Reordered, Owner.{isOfMask, ownsAddress, numberOfRow, ownerOf, indexCount, startsBelow, byStart, indexWord}}
-use Rattle.rules.proofs.{Order.same-accepted, SoundLaws.accepted-sound, OwnerLaws.{owner-once, owner-is, owner-none, by-start-says, by-start-is, by-start-some, start-word, size-word}}
+use Rattle.rules.proofs.{Order.same-accepted, SoundLaws.accepted-sound, OwnerLaws.{owner-once, owner-is, owner-none, owner-says, none-owns, by-start-says, by-start-is, by-start-some, start-word, size-word}}
 
 -- ---- the owner
-
-module _ (f : Headers) (given gpa : ℕ) where
-  owns : ℕ → Bool
-  owns i = regionPasses (ownsAddress given gpa) (f .initializations .row i)
-
-  -- the row that is the owner owns the address
-  owner-says : (i : ℕ) → ownerOf f given gpa ≡ numberOfRow f (some i) → (i < f .initializations .count) × (owns i ≡ true)
-  unfolding ownerOf owns
-  owner-says i e = go (firstBelow (f .initializations .count) owns) refl e
-    where
-      go : (o : Option ℕ) → firstBelow (f .initializations .count) owns ≡ o → numberOfRow f o ≡ numberOfRow f (some i) → (i < f .initializations .count) × (owns i ≡ true)
-      go none q n = absurd (omega arith)
-      go (some j) q n =
-          let (l, t, _) = first-says (f .initializations .count) owns j q in
-          let z : j ≡ i = omega arith in
-          (omega arith, rw z at t)
-
-  -- where there is none, no row owns the address
-  none-owns : ownerOf f given gpa ≡ 0 → (i : ℕ) → i < f .initializations .count → owns i ≡ false
-  unfolding ownerOf owns
-  none-owns e = go (firstBelow (f .initializations .count) owns) refl e
-    where
-      go : (o : Option ℕ) → firstBelow (f .initializations .count) owns ≡ o → numberOfRow f o ≡ 0 → (i : ℕ) → i < f .initializations .count → owns i ≡ false
-      go none q n = first-none (f .initializations .count) owns .0 q
-      go (some j) q n = absurd (omega arith)
 
 module _ (f g : Headers) (R : Reordered f g) (accepted : NotRefused f) (given gpa : ℕ) (nonzero : given ≢ 0) where
   accepted-too : NotRefused g
@@ -36,7 +11,6 @@ module _ (f g : Headers) (R : Reordered f g) (accepted : NotRefused f) (given gp
 
   -- the owner in the one is the partner of the owner in the other
   pub owner-there : (i : ℕ) → ownerOf f given gpa ≡ numberOfRow f (some i) → ownerOf g given gpa ≡ numberOfRow g (some (R .initializations .to i))
-  unfolding owns
   owner-there i e =
       let (l, t) = owner-says f given gpa i e in
       owner-is g given gpa (owner-once g (accepted-sound g accepted-too) given nonzero gpa) (R .initializations .to i) (R .initializations .to-below i l)
@@ -44,7 +18,6 @@ module _ (f g : Headers) (R : Reordered f g) (accepted : NotRefused f) (given gp
 
   -- and where there is none in the one, there is none in the other
   pub no-owner-there : ownerOf f given gpa ≡ 0 → ownerOf g given gpa ≡ 0
-  unfolding owns
   no-owner-there e =
       owner-none g given gpa (λ j l.
       rw (← same-back (R .initializations) j l) (none-owns f given gpa e (R .initializations .from j) (R .initializations .from-below j l)))

@@ -1,0 +1,3 @@
+pub mod SheetOfLaws
+pub mod ReadLaws
+pub mod ListsLaws

@@ -1,0 +1,3 @@
+pub mod SheetOf
+pub mod Offered
+pub mod Lists

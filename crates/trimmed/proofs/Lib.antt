@@ -1,0 +1,3 @@
+pub mod HeadersLaws
+pub mod SheetLaws
+pub mod Theorem

@@ -1,0 +1,4 @@
+pub mod Trimmed
+pub mod Answers
+pub mod Beside
+pub mod Weakened
