@@ -59,12 +59,15 @@ module _ (l : Limits) (fit : LimitsFit l) (remain : Remain) (s : List ℕ) (T : 
   pub within : Within (trimmedHeaders remain (sheetHeaders s)) (sheetHeaders s)
   within = trimmed-within l remain s (known .readable) (T .contexts) (T .areas)
 
-  not-refused : NotRefused (listsHeaders (headOf s) rows)
-  unfolding sheetHeaders listsHeaders sheetRows rows
-  not-refused =
+  pub trimmed-not-refused : NotRefused (trimmedHeaders remain (sheetHeaders s))
+  trimmed-not-refused =
       let f = sheetHeaders s in
       let g = trimmedHeaders remain f in
       accepted-says g .1 (within-accepted g f within (accepted-says f .0 (known .headers)))
+
+  rows-not-refused : NotRefused (listsHeaders (headOf s) rows)
+  unfolding sheetHeaders listsHeaders sheetRows rows
+  rows-not-refused = trimmed-not-refused
 
   fewer : bytesOf (headWith (headOf s) rows) (allRows rows .row) ≤ length s
   unfolding rows
@@ -85,4 +88,4 @@ module _ (l : Limits) (fit : LimitsFit l) (remain : Remain) (s : List ℕ) (T : 
       let b = count-le (headOf s .directives) (remain .directives) in
       let c = fewer in
       lists-accepted l (headOf s) rows sound (known .page-size)
-      (within-limits l _ _ (st .platforms) (omega arith) (omega arith) (omega arith)) not-refused
+      (within-limits l _ _ (st .platforms) (omega arith) (omega arith) (omega arith)) rows-not-refused

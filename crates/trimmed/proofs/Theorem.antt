@@ -8,13 +8,10 @@ use Rattle.rules.{specs.Relocations.{isRelocatable, relocatableOf, regionCount,
 use Rattle.answers.{specs.Verdict.{verdictRefusal, verdictOf}, specs.Strict.strictVerdictOf, specs.Relocations.{sheetInitializations, relocationsRefusal, foundOf, relocationsOf, regionWords, wordsAfter, baseNumber, baseCheckOf, containsOf}, proofs.AnswerLaws.{regionsOf, accepted-none, list-says, list-refusal, list-fine, list-found, found-count}, proofs.SameRegion.{check-same, answer-same, range-same}, proofs.StrictLaws.{strictly-accepted, strict-accepted}}
 use Rattle.sheet_of.specs.{SheetOf.LimitsFit, Lists.sheetRows}
 use Rattle.order.specs.{Demand.{Accepted, IsRegion, numberIn}, Strict.StrictlyAccepted}
-use Rattle.trimmed.specs.{Trimmed.{Remain, trimmedSheet, Trimmable}, Answers.{remainingVerdict, isRemainingRegion, remainingCount, remainingAt, remainingTable, Remains, newNumber, TrimmedAnswers}}
-use Rattle.trimmed.proofs.{HeadersLaws.{trimmedHeaders, trimmed-count, trimmed-region, trimmed-table}, SheetLaws.{trimmed-head, trimmed-headers, within, trimmed-accepted}}
+use Rattle.trimmed.specs.{Trimmed.{Remain, trimmedSheet, Trimmable}, Answers.{remainingVerdict, isRemainingRegion, remainingCount, remainingAt, remainingTable, Remains, newNumber, TrimmedAnswers}, Beside.TrimmedBeside}
+use Rattle.trimmed.proofs.{HeadersLaws.{trimmedHeaders, trimmed-count, trimmed-region, trimmed-table}, SheetLaws.{trimmed-head, trimmed-headers, within, trimmed-accepted}, OwnerLaws.{owner-remains, owner-dropped, no-owner}}
 
 module _ (l : Limits) (fit : LimitsFit l) (remain : Remain) (s : List ℕ) (T : Trimmable l remain s) where
-  trimmed : List ℕ
-  trimmed = trimmedSheet remain s
-
   accepted : Accepted l (trimmedSheet remain s)
   accepted = trimmed-accepted l fit remain s T
 
@@ -106,4 +103,15 @@ module _ (l : Limits) (fit : LimitsFit l) (remain : Remain) (s : List ℕ) (T : 
             answer-same l (trimmedSheet remain s) s accepted (T .accepted) given _ _ (number-in given j R) (old-number given j R) (found given j R) (baseNumber base);
         contains = λ given j R gpa.
             check-same l (trimmedSheet remain s) s accepted (T .accepted) given _ _ (number-in given j R) (old-number given j R) (found given j R) (λ r. regionContains r gpa);
+      }
+
+  -- and ranges of bases and the owner of an address beside it
+  pub trimmed-beside : TrimmedBeside l remain s
+  trimmed-beside =
+      record {
+        range = λ given j R lowest highest.
+            range-same l (trimmedSheet remain s) s accepted (T .accepted) given _ _ (number-in given j R) (old-number given j R) (found given j R) lowest highest;
+        owner = λ given gpa j e r. owner-remains l fit remain s T given gpa j e r;
+        dropped = λ given gpa j e r. owner-dropped l fit remain s T given gpa j e r;
+        none = λ given gpa e. no-owner l fit remain s T given gpa e;
       }
