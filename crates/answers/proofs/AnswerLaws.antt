@@ -1,7 +1,7 @@
 -- What is known of a sheet where a call is not refused.
 use Rattle.rows.{proofs.Kit.{_≡_, refl, _∙_, Bool, true, false, cond, false≢true, not, not-false, List, _≢_, Option, none, some, ℕ, _*_, _/_, _≤_, _<_, eqb, ltb, ltb-false, ltb-true, le-ltb, eqb-false, ne-eqb, arith}, specs.Below.nthBelow, specs.Rows.{Rows, rowAt}, proofs.Bools.and-parts, proofs.BelowLaws.{nth-says, nth-none}}
-use Rattle.igvm_defs.{specs.declared.Refusal.Refusal, specs.Refusals.{noFault, noRefusal, isFault, isRefusal, inRow}, proofs.RefusalLaws.{no-fault, row-refusal, orElse-later, no-fault-row}}
-use Rattle.sheet.{specs.Head.Limits, specs.Read.{Readable, sheetRefusal}, proofs.Readable.sheet-says}
+use Rattle.igvm_defs.{specs.declared.Refusal.Refusal, specs.Refusals.{noFault, noRefusal, isFault, isRefusal, inRow}, specs.Revision.pageSizeOf, proofs.RefusalLaws.{no-fault, row-refusal, orElse-later, no-fault-row}}
+use Rattle.sheet.{specs.Head.{Limits, headOf, revisionOf}, specs.Read.{Readable, sheetRefusal}, proofs.Readable.sheet-says}
 use Rattle.sheet_headers.specs.Headers.{sheetHeaders}
 use Rattle.masks.specs.Masks.{matches}
 use Rattle.initialization_header.{specs.declared.IgvmInitializationHeader.IgvmInitializationHeader, specs.Fields.{initializationFields, kindNumber}}
@@ -16,6 +16,11 @@ answered refusal answer = record { refusal = refusal; answer = answer }
 pub accepted-readable : (l : Limits) (s : List ℕ) → isRefusal (verdictRefusal l s) ≡ false → Readable l s
 unfolding verdictRefusal
 accepted-readable l s v = sheet-says l s .0 (else-none (sheetRefusal l s) _ .0 v .0) .0
+
+-- its page size is 4096
+pub accepted-page-size : (l : Limits) (s : List ℕ) → isRefusal (verdictRefusal l s) ≡ false → pageSizeOf (revisionOf (headOf s)) ≡ 4096
+unfolding verdictRefusal
+accepted-page-size l s v = sheet-says l s .0 (else-none (sheetRefusal l s) _ .0 v .0) .1
 
 -- and its headers meet none of 8 to 34
 pub accepted-headers : (l : Limits) (s : List ℕ) → isRefusal (verdictRefusal l s) ≡ false → NotRefused (sheetHeaders s)

@@ -1,6 +1,6 @@
 -- Laws of faults and refusals: whether there is one, as an equation, and which one it is.
 use lib.Dec.{eqb·suc-zero}
-use Rattle.rows.{proofs.Kit.{_≡_, refl, sym, ap, _∙_, Bool, true, false, not, cond, _||_, _≢_, _↔_, Option, none, some, ℕ, zero, suc, _+_, _-_, _<_, arith, decLt, eqb, eqb-true, ne-eqb, not-false}, specs.Below.{anyBelow, firstBelow}, proofs.BelowLaws.{any-below, none-any, first-any, first-none, first-at, first-says, first-same-tests}}
+use Rattle.rows.{proofs.Kit.{_≡_, refl, sym, ap, _∙_, Bool, true, false, not, cond, _||_, _≢_, _↔_, Option, none, some, ℕ, suc, _+_, _-_, _<_, arith, decLt, eqb, eqb-true, ne-eqb, not-false}, specs.Below.{anyBelow, firstBelow}, proofs.BelowLaws.{any-below, none-any, first-any, first-none, first-at, first-says, first-same-tests}}
 use Rattle.igvm_defs.specs.{declared.Refusal.Refusal, declared.Fault.Fault, Refusals.{refusal, noRefusal, fault, noFault, refuse, orFault, Then, isFault, isRefusal, inRow, orElse, refusalAt, firstFault}}
 
 -- ---- whether there is a fault, a refusal

@@ -1,10 +1,10 @@
 -- Laws of lists one after the other and of the bytes of a number.
-use native.Mathlib.Nat.{mul-comm, mod-eq-of-lt}
-use lib.Arith.{mod-mul}
-use lib.ListN.{List·getD-append}
-use lib.Seq.{take-at, drop-at, getD-append-add, getD-drop}
-use Rattle.rows.{proofs.Kit.{_≡_, refl, sym, ap, _∙_, ℕ, zero, suc, _+_, _-_, _*_, _/_, _%_, _^_, _<_, _≤_, add-zero, add-suc, pow-succ', arith, List, [], _∷_, _++_, append-assoc, append-nil, length, take, drop, length-append, getD-take}, specs.Below.sumBelow, proofs.BelowLaws.sum-cong}
-use Rattle.le.specs.{Le.{byteAt, leAt, byteOf}, Bytes.{concatBelow, leBytes}}
+use native.Mathlib.Nat.{mul-comm, mul-assoc, mod-eq-of-lt, div-eq-of-lt, add-mul-div-left, add-mul-mod-self-left}
+use lib.Arith.{digits-lt, mod-mul}
+use lib.Pow.{pow-add}
+use lib.Seq.{take-at, drop-at, take-add, drop-drop, getD-append-add, getD-drop}
+use Rattle.rows.{proofs.Kit.{_≡_, refl, sym, ap, _∙_, ℕ, zero, suc, _+_, _-_, _*_, _/_, _%_, _^_, _<_, _≤_, add-zero, zero-add, add-suc, not-suc-le-zero, pow-succ', arith, inl, inr, List, [], _∷_, _++_, append-assoc, append-nil, length, take, drop, length-append, length-drop, getD-take, take-suc}, specs.Below.sumBelow, proofs.BelowLaws.{top, sum-cong}}
+use Rattle.le.specs.{Le.{byteAt, leAt, byteOf}, Bytes.{IsBytes, concatBelow, leBytes}}
 
 -- a part of a list, by what stands before it
 pub part-at : (s p q r : List ℕ) (n m : ℕ) → s ≡ p ++ (q ++ r) → length p ≡ n → length q ≡ m → take m (drop n s) ≡ q
@@ -73,3 +73,56 @@ le-of-bytes w v at s b e = sum-cong w _ _ (λ k l. ap (λ x. 256 ^ k * x) (byte 
   where
     byte : (k : ℕ) → k < w → byteAt s (at + k) ≡ byteOf k v
     byte k l = sym (getD-drop at s k 0) ∙ sym (getD-take w (drop at s) k 0 l) ∙ ap (λ (x : List ℕ). byteAt x k) e ∙ le-byte w v k l
+
+-- ---- bytes that were read, and the bytes of the number that they say
+
+sum-small : (w : ℕ) (b : ℕ → ℕ) → ((k : ℕ) → b k < 256) → sumBelow w (λ k. 256 ^ k * b k) < 256 ^ w
+unfolding sumBelow
+sum-small zero b h = omega arith
+sum-small (suc w) b h =
+    let l = digits-lt {q = b w} {m = 256} {c = 256 ^ w} (h w) (sum-small w b h) in
+    rw (pow-succ' 256 w, mul-comm (256 ^ w) (b w)) (omega arith)
+
+byte-said : (w : ℕ) (b : ℕ → ℕ) → ((k : ℕ) → b k < 256) → (k : ℕ) → k < w → byteOf k (sumBelow w (λ k. 256 ^ k * b k)) ≡ b k
+unfolding sumBelow byteOf
+byte-said zero b h k l = absurd (not-suc-le-zero l)
+byte-said (suc w) b h k l =
+    elim (top l) [
+      | inl e ↦
+          rw (
+            e,
+            add-mul-div-left (sumBelow w (λ k. 256 ^ k * b k)) (b w) (power-pos w),
+            div-eq-of-lt (sum-small w b h),
+            zero-add,
+            mod-eq-of-lt (h w),
+          )
+      | inr m ↦
+          let p : 256 ^ w * b w ≡ 256 ^ k * (256 * (256 ^ (w - suc k) * b w)) = higher k w (b w) m in
+          rw (
+            p,
+            add-mul-div-left (sumBelow w (λ k. 256 ^ k * b k)) (256 * (256 ^ (w - suc k) * b w)) (power-pos k),
+            add-mul-mod-self-left (sumBelow w (λ k. 256 ^ k * b k) / 256 ^ k) 256 (256 ^ (w - suc k) * b w),
+          ) (byte-said w b h k m)
+    ]
+  where
+    higher : (k w b : ℕ) → k < w → 256 ^ w * b ≡ 256 ^ k * (256 * (256 ^ (w - suc k) * b))
+    higher k w b m =
+        let z : w ≡ k + suc (w - suc k) = omega arith in
+        ap (λ n. 256 ^ n * b) z ∙ rw (pow-add 256 k (suc (w - suc k)), pow-succ' 256 (w - suc k), mul-assoc, mul-assoc)
+
+single : (w : ℕ) (x : List ℕ) (b : ℕ → ℕ) → w ≤ length x → ((k : ℕ) → k < w → b k ≡ byteAt x k) → concatBelow w (λ k. b k ∷ []) ≡ take w x
+unfolding concatBelow
+single zero x b l h = refl
+single (suc w) x b l h = rw (single w x b (omega arith) (λ k m. h k (omega arith)), h w (omega arith)) (sym (take-suc x w 0 (omega arith)))
+
+pub bytes-back : (w at : ℕ) (s : List ℕ) → IsBytes s → at + w ≤ length s → leBytes w (leAt w s at) ≡ take w (drop at s)
+unfolding leBytes leAt
+bytes-back w at s bytes l =
+    single w (drop at s) _ (rw (length-drop at s) (omega arith))
+    (λ k m. byte-said w (λ k. byteAt s (at + k)) (λ k. bytes (at + k)) k m ∙ sym (getD-drop at s k 0))
+
+-- parts of a list that follow each other, one after the other
+pub concat-parts : (n at : ℕ) (part : ℕ → ℕ) (s : List ℕ) → concatBelow n (λ k. take (part k) (drop (at + sumBelow k part) s)) ≡ take (sumBelow n part) (drop at s)
+unfolding concatBelow sumBelow
+concat-parts zero at part s = refl
+concat-parts (suc n) at part s = rw (concat-parts n at part s, take-add (sumBelow n part) (part n) (drop at s), drop-drop (sumBelow n part) at s)

@@ -1,6 +1,6 @@
 -- Laws of lent bytes. A store past the end changes nothing, so only laws that read a byte ask for room.
 use native.Mathlib.Nat.{mod-eq-of-lt, zero-div}
-use Rattle.rows.{proofs.Kit.{ℕ, zero, suc, _+_, _-_, _*_, _/_, _%_, _^_, _≤_, _<_, add-zero, zero-add, not-suc-le-zero, le-of-suc-le-suc, pow-succ', decLt, arith, _≡_, refl, sym, ap, _∙_, Bool, true, cond, _&&_, and-false, List, [], _∷_, eqb, leb, ltb, length, getD, set, List·getD-eq-default, eqb-true, leb-true, ltb-true, eq-eqb, ne-eqb, le-leb, lt-leb, lt-ltb, le-ltb}, specs.Below.sumBelow, proofs.Bools.{same-test, and-parts, cond-same}, proofs.BelowLaws.sum-cong}
+use Rattle.rows.{proofs.Kit.{ℕ, zero, suc, _+_, _-_, _*_, _/_, _%_, _^_, _≤_, _<_, add-zero, zero-add, not-suc-le-zero, le-of-suc-le-suc, decLt, arith, _≡_, refl, sym, ap, _∙_, Bool, true, cond, _&&_, and-false, List, [], _∷_, eqb, leb, ltb, length, getD, set, List·getD-eq-default, eqb-true, leb-true, ltb-true, eq-eqb, ne-eqb, le-leb, lt-leb, lt-ltb, le-ltb}, proofs.Bools.{same-test, and-parts, cond-same}, proofs.BelowLaws.sum-cong}
 use Rattle.le.{specs.Le.{byteAt, leAt, byteOf}, proofs.BytesLaws.bytes-say}
 use Rattle.lent.specs.Lent.{eachFrom, each, bytesPut, wordPut, wordsPut, rowPut, rowsPut, numbersPut}
 

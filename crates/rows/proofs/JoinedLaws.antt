@@ -1,6 +1,6 @@
 -- The rows of two lists joined.
-use Rattle.rows.specs.{Below.sumBelow, Rows.Rows, Lists.joined}
-use Rattle.rows.proofs.{Kit.{_≡_, ap, ap₂, _∙_, ℕ, _+_, _-_, _<_, decLt, arith, lt-ltb, le-ltb}, BelowLaws.{sum-split, sum-cong}}
+use Rattle.rows.specs.{Below.sumBelow, Rows.Rows, Same.SameRows, Lists.joined}
+use Rattle.rows.proofs.{Kit.{_≡_, sym, ap, ap₂, _∙_, ℕ, _+_, _-_, _<_, decLt, arith, lt-ltb, le-ltb}, BelowLaws.{sum-split, sum-cong}}
 
 module _ {H : Type 0} (xs ys : Rows H) where
   pub left-row : (i : ℕ) → i < xs .count → joined xs ys .row i ≡ xs .row i
@@ -30,3 +30,13 @@ module _ {H : Type 0} (xs ys : Rows H) where
   sum-joined w =
       sum-split (xs .count) (ys .count) (λ i. w (joined xs ys .row i))
       ∙ ap₂ (λ (a b : ℕ). a + b) (sum-cong (xs .count) _ _ (λ i l. ap w (left-row i l))) (sum-cong (ys .count) _ _ (λ j l. ap w (right-row j)))
+
+-- lists with the same rows, joined
+abbrev pub joined-rows : {H : Type 0} {xs ys us vs : Rows H} → SameRows xs us → SameRows ys vs → SameRows (joined xs ys) (joined us vs)
+joined-rows {H} {xs} {ys} {us} {vs} S T = record { count = rw (S .count, T .count); row = λ i l. go i (side xs ys i l) }
+  where
+    go : (i : ℕ) → Side xs ys i → joined xs ys .row i ≡ joined us vs .row i
+    go i (lead h e) = e ∙ S .row i h ∙ sym (left-row us vs i (let c = S .count in omega arith))
+    go i (follow j h z e) =
+        let w : i ≡ us .count + j = let c = S .count in omega arith in
+        e ∙ T .row j h ∙ sym (ap (joined us vs .row) w ∙ right-row us vs j)

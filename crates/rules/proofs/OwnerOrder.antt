@@ -1,6 +1,6 @@
 -- The owner of an address and the index of a mask's regions, of files whose rows pair off.
-use Rattle.rows.{proofs.Kit.{_≡_, refl, sym, ap, _∙_, Bool, true, false, _&&_, _≢_, Option, none, some, ℕ, _+_, _*_, _<_, arith, ltb}, specs.Below.firstBelow, proofs.BelowLaws.{first-none, first-says}, proofs.PairedLaws.{count-same, same-back}}
-use Rattle.rules.specs.{Headers.Headers, Regions.{regionOf, regionPasses}, Accepted.NotRefused, Reordered.Reordered, Owner.{isOfMask, ownsAddress, numberOfRow, ownerOf, indexCount, startsBelow, byStart, indexWord}}
+use Rattle.rows.{proofs.Kit.{_≡_, sym, ap, _∙_, _&&_, _≢_, some, ℕ, _+_, _*_, _<_, ltb}, proofs.PairedLaws.{count-same, same-back}}
+use Rattle.rules.specs.{Headers.Headers, Regions.{regionOf, regionPasses}, Accepted.NotRefused, Reordered.Reordered, Owner.{isOfMask, numberOfRow, ownerOf, indexCount, startsBelow, byStart, indexWord}}
 use Rattle.rules.proofs.{Order.same-accepted, SoundLaws.accepted-sound, OwnerLaws.{owner-once, owner-is, owner-none, owner-says, none-owns, by-start-says, by-start-is, by-start-some, start-word, size-word}}
 
 -- ---- the owner

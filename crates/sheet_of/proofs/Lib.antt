@@ -1,3 +1,4 @@
 pub mod SheetOfLaws
 pub mod ReadLaws
 pub mod ListsLaws
+pub mod OwnRows

@@ -1,11 +1,11 @@
 -- The sheet made of rows: its refusals 1 to 34 are those of head and rows, and its headers the decoded rows.
-use Rattle.rows.{proofs.Kit.{_≡_, refl, sym, _∙_, Bool, true, false, not, List, _↔_, ℕ, _+_, _*_, _<_, _≤_, arith, length, le-ltb, not-false}, specs.Below.sumBelow, specs.Same.SameRows, proofs.BelowLaws.sum-part}
+use Rattle.rows.{proofs.Kit.{_≡_, refl, sym, _∙_, Bool, true, false, not, List, _↔_, ℕ, _+_, _<_, _≤_, arith, length, le-ltb, not-false}, specs.Below.sumBelow, specs.Same.SameRows, proofs.BelowLaws.sum-part}
 use Rattle.igvm_defs.{specs.declared.Fault.Fault, specs.Refusals.{refusal, noFault, noRefusal, isFault, isRefusal, inRow, orElse, firstFault}, proofs.RefusalLaws.{no-fault, row-refusal, no-fault-row, orElse-first, orElse-later, fault-end, faults-any, faults-same}}
-use Rattle.sheet.{specs.declared.SheetHead.SheetHead, specs.Head.{Limits, headOf, rowCount, bodiesAt, layoutOk, withinLimits, startFault, pageSizeFault}, specs.Table.{rowKind, rowLength, offsetOf, bodyOf, headersOf}, specs.Read.{listAt, rowFault, endFault, rowsRefusal, readRefusal, Readable, sheetRefusal}}
+use Rattle.sheet.{specs.declared.SheetHead.SheetHead, specs.Head.{Limits, rowCount, bodiesAt, layoutOk, withinLimits, startFault}, specs.Table.headersOf, specs.Read.{listAt, rowFault, endFault, rowsRefusal, readRefusal, Readable, sheetRefusal}}
 use Rattle.platform_header.specs.Platforms.{platformOf}
 use Rattle.initialization_header.specs.Initializations.{initializationOf}
 use Rattle.directive_header.specs.Directives.{directiveOf}
-use Rattle.rules.{specs.Verdict.headersRefusal, proofs.FaultLaws.{refuse-none, else-none, rows-none}, proofs.SameHeaders.{SameHeaders, same-refusal}}
+use Rattle.rules.{proofs.FaultLaws.{refuse-none, else-none, rows-none}, proofs.SameHeaders.{SameHeaders, same-refusal}}
 use Rattle.sheet_headers.specs.Headers.{sheetHeaders}
 use Rattle.answers.specs.Verdict.{verdictRefusal}
 use Rattle.sheet_of.specs.{SheetOf.{Row, sheetOf, Fits, decoded, rowHeaders}, Offered.{bytesOf, headFault, offeredFault, offeredRefusal, rowsVerdict}}

@@ -1,10 +1,15 @@
 -- The sheet made of rows gives back head, kinds, lengths and bodies.
 use lib.ListN.{List·getD-append}
 use lib.Seq.{getD-append-add}
-use Rattle.rows.{proofs.Kit.{_≡_, refl, sym, _∙_, ℕ, suc, _+_, _-_, _*_, _<_, _≤_, arith, List, _++_, append-assoc, length, length-append}, specs.Below.sumBelow, proofs.BelowLaws.sum-cong}
-use Rattle.le.{specs.Le.byteAt, specs.Bytes.{concatBelow, leBytes}, proofs.BytesLaws.{part-at, concat-length, concat-at, sum-alike, le-length, le-of-bytes}}
-use Rattle.sheet.{specs.declared.SheetHead.SheetHead, specs.Head.{headOf, rowCount, bodiesAt}, specs.Table.{rowKind, rowLength, offsetOf, bodyOf}}
-use Rattle.sheet_of.specs.SheetOf.{Row, headBytes, entryBytes, sheetOf, Fits}
+use Rattle.rows.{proofs.Kit.{_≡_, refl, sym, ap, _∙_, ℕ, suc, _+_, _-_, _*_, _<_, _≤_, arith, List, _++_, append-assoc, length, length-append}, specs.Below.sumBelow, proofs.BelowLaws.sum-cong}
+use Rattle.le.{specs.Le.byteAt, specs.Bytes.{concatBelow, leBytes}, proofs.BytesLaws.{part-at, concat-length, concat-at, concat-same, sum-alike, le-length, le-of-bytes}}
+use Rattle.sheet.{specs.declared.SheetHead.SheetHead, specs.Head.{limits, headOf, rowCount, bodiesAt}, specs.Table.{rowKind, rowLength, offsetOf, bodyOf}}
+use Rattle.sheet_of.specs.SheetOf.{Row, headBytes, entryBytes, sheetOf, Fits, LimitsFit}
+
+-- the limits in force
+pub limits-fit : LimitsFit limits
+unfolding limits
+limits-fit = record { platforms = omega arith; initializations = omega arith; directives = omega arith; bytes = omega arith }
 
 pub head-length : (h : SheetHead) → length (headBytes h) ≡ 16
 unfolding headBytes leBytes concatBelow
@@ -12,7 +17,7 @@ head-length h = refl
 
 pub entry-length : (r : Row) → length (entryBytes r) ≡ 8
 unfolding entryBytes
-entry-length r = rw (length-append, le-length, le-length)
+entry-length r = rw (length-append, le-length 4 (r .kind), le-length 4 (length (r .body)))
 
 module _ (h : SheetHead) (row : ℕ → Row) where
   table : ℕ → List ℕ
@@ -108,3 +113,12 @@ module _ (h : SheetHead) (row : ℕ → Row) where
         let before : length (headBytes h ++ table (rowCount h) ++ concatBelow k (λ i. row i .body)) ≡ offsetOf (sheetOf h row) k =
         rw (length-append, length-append, head-length h, table-length (rowCount h), concat-length k (λ i. row i .body), offset-is k (omega arith)) (omega arith) in
         part-at (sheetOf h row) (headBytes h ++ table (rowCount h) ++ concatBelow k (λ i. row i .body)) (row k .body) r _ _ e before (sym (length-is k l))
+
+-- rows that are the same make the same sheet
+pub sheet-same : (h : SheetHead) (row other : ℕ → Row) → ((k : ℕ) → k < rowCount h → row k ≡ other k) → sheetOf h row ≡ sheetOf h other
+unfolding sheetOf
+sheet-same h row other e =
+    rw (
+      concat-same (rowCount h) (λ k. entryBytes (row k)) (λ k. entryBytes (other k)) (λ k l. ap entryBytes (e k l)),
+      concat-same (rowCount h) (λ k. row k .body) (λ k. other k .body) (λ k l. ap (λ (r : Row). r .body) (e k l)),
+    )

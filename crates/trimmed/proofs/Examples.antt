@@ -1,7 +1,7 @@
 -- Rows dropped from a real sheet, of both lists and the page-table region among them: the premise is met, and the theorem applies. The trimmed sheets are held to
 -- their bytes.
 use lib.Count.{ones, onesIn}
-use Rattle.rows.{proofs.Kit.{_≡_, refl, true, sym, ap, _∙_, subst, false≢true, Option, none, some, List, [], _∷_, ℕ, arith, length}, specs.Below.{anyBelow, firstBelow, lastBelow, sumBelow, nthBelow}, specs.Lists.remainingIndex}
+use Rattle.rows.{proofs.Kit.{_≡_, refl, true, ap, false≢true, none, some, ℕ, arith}, specs.Below.{anyBelow, firstBelow, lastBelow, sumBelow, nthBelow}, specs.Lists.remainingIndex}
 use Rattle.le.{specs.Le.{leAt, byteOf}, specs.Bytes.{concatBelow, leBytes}}
 use Rattle.igvm_defs.{specs.Refusals.{noRefusal, isFault, isRefusal, inRow, orElse, firstFault}, specs.Kinds.{spans, kindOf, lengthOk}, specs.Platforms.{platformTypes, isPlatformType, platformTypeOf}, specs.Vtls.vtlOf, proofs.Runs.{_⨾_, each}}
 use Rattle.masks.specs.Masks.{shares, matches, isOneBit, hasBit, bitsBelow, firstMask}
@@ -13,9 +13,9 @@ use Rattle.directive_header.specs.Directives.{directiveOf}
 use Rattle.sheet_headers.specs.Headers.{sheetHeaders}
 use Rattle.rules.{specs.Regions.{regionPasses, tablesShare, overlap}, specs.Platforms.{validatePlatform, sameType, ownPlatformFault, platformFault, lastIsCca}, specs.Initializations.{validateRegion, validateTable, bitWithoutCca, initializationFault}, specs.Directives.{wrongContextArch, allocates, inserts, isAllocated, badArea, ownDirectiveFault, directiveFault, noContext}, specs.Relocations.{regionCount, pageTableAt}, specs.Verdict.{noPlatform, noMatchingVpContext, platformsRefusal, initializationsRefusal, directivesRefusal, headersRefusal}}
 use Rattle.answers.specs.{declared.Relocations.Relocations, Verdict.{verdictRefusal, verdictOf}, Relocations.{maskFault, wordsFault, relocationsRefusal, foundOf, relocationsOf, baseCheckOf, containsOf}, BaseRanges.baseRangeOf}
-use Rattle.sheet_of.{specs.SheetOf.{headBytes, entryBytes, sheetOf}, specs.Lists.{listsSheet, sheetRows}, proofs.ListsLaws.limits-fit}
+use Rattle.sheet_of.{specs.SheetOf.{headBytes, entryBytes, sheetOf}, specs.Lists.{listsSheet, sheetRows}, proofs.SheetOfLaws.limits-fit}
 use Rattle.order.{specs.Sheets.{sheetA, insertLast}, proofs.Swap.accepted-A}
-use Rattle.trimmed.specs.{Trimmed.{Remain, trimmedSheet, directiveKind, isVbsContext, Trimmable}, Answers.{remainingCount, remainingTable, Remains, TrimmedAnswers}, Beside.TrimmedBeside, Sheets.{allBut, someDropped, someLeft, contextDropped, contextLess, areaDropped, areaLess, insertedDropped, insertLeft}}
+use Rattle.trimmed.specs.{Trimmed.{trimmedSheet, directiveKind, isVbsContext, Trimmable}, Answers.{remainingCount, remainingTable, Remains, TrimmedAnswers}, Beside.TrimmedBeside, Sheets.{allBut, someDropped, someLeft, contextDropped, contextLess, areaDropped, areaLess, insertedDropped, insertLeft}}
 use Rattle.trimmed.proofs.Theorem.{trimmed-answers, trimmed-beside}
 
 -- the trimmed sheets are these bytes

@@ -1,9 +1,9 @@
 -- On headers: the rows that remain all stand in the file, and what they rely on remains; and the regions of a mask are the old ones without the dropped.
-use Rattle.rows.{proofs.Kit.{_≡_, refl, ap, sym, _∙_, true, _≢_, Option, List, ℕ, _+_, _<_, arith, _&&_, _||_, eqb, eqb-true}, specs.Rows.Rows, specs.Paired.Free, specs.Lists.remaining, proofs.Bools.{and-parts}, proofs.PairedLaws.unmoved, proofs.RemainingLaws.{place, count-remaining-rows, nth-remaining-rows, remaining-into, remaining-there}}
+use Rattle.rows.{proofs.Kit.{_≡_, refl, ap, sym, _∙_, Bool, true, false, cond, Option, none, some, List, ℕ, _+_, _<_, le-of-eq, arith, _&&_, _||_, eqb, eqb-true}, specs.Below.{countBelow, nthBelow}, specs.Rows.{Rows, rowAt, Once}, specs.Paired.Free, specs.Lists.remaining, proofs.Bools.{and-parts, and-both, not-both, is-false}, proofs.BelowLaws.{count-none, count-zero, nth-says, nth-number, nth-none, nth-few}, proofs.PairedLaws.unmoved, proofs.RemainingLaws.{place, count-remaining-rows, nth-remaining-rows, remaining-into, remaining-there}}
 use Rattle.igvm_defs.specs.Kinds.{directiveList, kindOf}
-use Rattle.sheet.{specs.Head.{Limits, headOf, firstDirective}, specs.Table.rowKind, specs.Read.Readable, proofs.Readable.directive-row}
+use Rattle.sheet.{specs.Head.{Limits, headOf, firstDirective}, specs.Read.Readable, proofs.Readable.directive-row}
 use Rattle.initialization_header.specs.declared.IgvmInitializationHeader.{IgvmInitializationHeader}
-use Rattle.directive_header.{specs.declared.IgvmDirectiveHeader.IgvmDirectiveHeader, specs.Fields.{directiveFields, kindNumber, areaOf}, proofs.DirectiveLaws.{kind-directive, area-directive}}
+use Rattle.directive_header.{specs.Fields.{directiveFields, kindNumber, areaOf}, proofs.DirectiveLaws.{kind-directive, area-directive}}
 use Rattle.sheet_headers.specs.Headers.{sheetHeaders}
 use Rattle.masks.specs.Masks.{shares}
 use Rattle.rules.{specs.Headers.Headers, specs.Options.{passes, then}, specs.Directives.{allocates, isContext}, specs.Relocations.{isRelocatable, isPageTable, relocatableOf, pageTableOf, regionCount, regionAt, pageTableAt}, specs.Reordered.{SameMask, SameArea}, proofs.AreaLaws.allocates-names, proofs.Within.Within}
@@ -81,6 +81,38 @@ module _ (remain : Remain) (xs : Rows IgvmInitializationHeader) (given : ℕ) wh
   unfolding regionAt remainingAt
   trimmed-region k = ap (λ (o : Option IgvmInitializationHeader). then o relocatableOf) (nth-remaining-rows (remain .initializations) xs (isRelocatable given) k)
 
-  pub trimmed-table : pageTableAt (remaining (remain .initializations) xs) given ≡ remainingTable remain xs given
+  -- where the mask has one page table at most
+  pub trimmed-table : Once (isPageTable given) xs → pageTableAt (remaining (remain .initializations) xs) given ≡ remainingTable remain xs given
   unfolding pageTableAt remainingTable
-  trimmed-table = ap (λ (o : Option IgvmInitializationHeader). then o pageTableOf) (nth-remaining-rows (remain .initializations) xs (isPageTable given) 0)
+  trimmed-table once =
+      ap (λ (o : Option IgvmInitializationHeader). then o pageTableOf) (nth-remaining-rows (remain .initializations) xs (isPageTable given) 0)
+      ∙ go (nthBelow (xs .count) table 0) refl
+    where
+      table : ℕ → Bool
+      table j = isPageTable given (xs .row j)
+
+      there : ℕ → Bool
+      there j = table j && remain .initializations j
+
+      -- no page table remains
+      gone : ((j : ℕ) → j < xs .count → there j ≡ false) → then (rowAt xs (nthBelow (xs .count) there 0)) pageTableOf ≡ none
+      gone h = rw (nth-few (xs .count) there 0 (le-of-eq (count-none (xs .count) there h)))
+
+      left : (j : ℕ) → nthBelow (xs .count) table 0 ≡ some j → (b : Bool) → remain .initializations j ≡ b
+          → then (rowAt xs (nthBelow (xs .count) there 0)) pageTableOf ≡ cond b (pageTableOf (xs .row j)) none
+      left j e true r =
+          let (l, g, c) = nth-says (xs .count) table 0 j e in
+          let z : countBelow j there ≡ 0 = count-none j there (λ i m. rw (count-zero j table .0 c i m)) in
+          rw (rw z at (nth-number (xs .count) there j l (and-both (table j) (remain .initializations j) g r)))
+      left j e false r =
+          let (l, g, c) = nth-says (xs .count) table 0 j e in
+          gone (λ i m. is-false (there i) (λ t.
+          let (p, q) = and-parts (table i) (remain .initializations i) t in
+          not-both r (rw (once i j m l p g) at q)))
+
+      go : (o : Option ℕ) → nthBelow (xs .count) table 0 ≡ o
+          → then (rowAt xs (nthBelow (xs .count) there 0)) pageTableOf ≡ then o (λ j. cond (remain .initializations j) (pageTableOf (xs .row j)) none)
+      go none e =
+          let few = nth-none (xs .count) table 0 e in
+          gone (λ j m. rw (count-zero (xs .count) table .0 (omega arith) j m))
+      go (some j) e = left j e (remain .initializations j) refl

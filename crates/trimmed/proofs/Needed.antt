@@ -13,7 +13,7 @@ use Rattle.directive_header.specs.Directives.{directiveOf}
 use Rattle.sheet_headers.specs.Headers.{sheetHeaders}
 use Rattle.rules.{specs.Regions.{regionPasses, tablesShare, overlap}, specs.Platforms.{validatePlatform, sameType, ownPlatformFault, platformFault, lastIsCca}, specs.Initializations.{validateRegion, validateTable, bitWithoutCca, initializationFault}, specs.Directives.{wrongContextArch, allocates, inserts, isAllocated, badArea, ownDirectiveFault, directiveFault, noContext}, specs.Verdict.{noPlatform, noMatchingVpContext, platformsRefusal, initializationsRefusal, directivesRefusal, headersRefusal}}
 use Rattle.answers.specs.Verdict.{verdictRefusal}
-use Rattle.sheet_of.proofs.ListsLaws.{limits-fit}
+use Rattle.sheet_of.proofs.SheetOfLaws.{limits-fit}
 use Rattle.order.{specs.Sheets.{sheetA, insertLast}, specs.Demand.Accepted, proofs.Swap.accepted-A}
 use Rattle.trimmed.specs.{Trimmed.{directiveKind, isVbsContext, ContextsRemain, AreasRemain}, Weakened.{Statement, Both, InsertsNameNone}, Sheets.{allBut, contextDropped, contextLess, areaDropped, areaLess, insertedDropped, insertLeft}}
 use Rattle.trimmed.proofs.{SheetLaws.trimmed-accepted, Examples.sheets}
@@ -41,8 +41,8 @@ pub contexts-needed : Statement AreasRemain → ⊥
 unfolding sheetA headOf rowKind leAt sumBelow allBut isRefusal
 contexts-needed f =
     let areas : AreasRemain contextDropped sheetA = λ i area _ _ _ j below k _.
-        each (λ j. directiveKind sheetA j ≡ 33 → contextDropped .directives j ≡ true) 0 4
-        ((λ e. absurd (omega arith)) ⨾ (λ e. refl) ⨾ (λ e. refl) ⨾ (λ e. refl) ⨾ tt) j (omega arith) below k in
+    each (λ j. directiveKind sheetA j ≡ 33 → contextDropped .directives j ≡ true) 0 4
+    ((λ e. absurd (omega arith)) ⨾ (λ e. refl) ⨾ (λ e. refl) ⨾ (λ e. refl) ⨾ tt) j (omega arith) below k in
     true≢false (rw (sheets .1, verdicts .0) at (f contextDropped sheetA accepted-A areas))
 
 -- so must areas that a remaining row names: without it the parameter names none (32)

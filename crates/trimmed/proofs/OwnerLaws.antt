@@ -1,5 +1,5 @@
 -- The owner of an address in the trimmed sheet: the old owner in its new row, where it remains, else none.
-use Rattle.rows.{proofs.Kit.{_≡_, sym, _∙_, true, false, _≢_, List, some, inl, inr, ℕ, _<_, arith}, specs.Below.countBelow, specs.Lists.remainingIndex, proofs.Bools.{which, not-both, is-false}, proofs.BelowLaws.count-lt, proofs.RemainingLaws.{place, index-of}}
+use Rattle.rows.{proofs.Kit.{_≡_, sym, _∙_, true, false, _≢_, List, some, inl, inr, ℕ, arith}, specs.Below.countBelow, specs.Lists.remainingIndex, proofs.Bools.{which, not-both, is-false}, proofs.BelowLaws.count-lt, proofs.RemainingLaws.{place, index-of}}
 use Rattle.igvm_defs.{specs.Refusals.isRefusal, proofs.RefusalLaws.orElse-later}
 use Rattle.sheet.specs.Head.{Limits}
 use Rattle.sheet_headers.specs.Headers.{sheetHeaders}

@@ -1,10 +1,12 @@
 -- The trimmed sheet: its headers are those that remain, and it is accepted.
-use Rattle.rows.{proofs.Kit.{_≡_, Bool, false, List, ℕ, _≤_, arith, length}, specs.Below.sumBelow, specs.Rows.Rows, specs.Paired.Free, specs.Lists.remaining, proofs.BelowLaws.count-le, proofs.PairedLaws.sum-there, proofs.RemainingLaws.{place, remaining-into}}
-use Rattle.igvm_defs.specs.Kinds.{initializationList, directiveList}
-use Rattle.sheet.{specs.Head.{Limits, headOf}, proofs.Readable.{Started, readable-reads}}
+use Rattle.rows.{proofs.Kit.{_≡_, _∙_, Bool, true, List, ℕ, _<_, _≤_, arith, length}, specs.Below.sumBelow, specs.Rows.Rows, specs.Paired.Free, specs.Lists.remaining, proofs.BelowLaws.count-le, proofs.SameLaws.rows-refl, proofs.PairedLaws.sum-there, proofs.RemainingLaws.{place, remaining-into, all-remain}}
+use Rattle.le.specs.Bytes.{IsBytes}
+use Rattle.igvm_defs.specs.{Kinds.{initializationList, directiveList}, Revision.pageSizeOf}
+use Rattle.sheet.{specs.Head.{Limits, headOf, revisionOf}, specs.Read.Readable, proofs.Readable.{Started, readable-reads}}
 use Rattle.sheet_headers.specs.Headers.{sheetHeaders}
 use Rattle.rules.{specs.Accepted.NotRefused, proofs.Acceptance.accepted-says, proofs.Within.{Within, within-accepted}, proofs.SameHeaders.SameHeaders}
-use Rattle.sheet_of.{specs.SheetOf.{Row, LimitsFit}, specs.Offered.bytesOf, specs.Lists.{RowLists, allRows, headWith, listsHeaders, sheetRows}, proofs.ListsLaws.{AllPass, Sound, lists-bytes, lists-head, lists-headers, lists-accepted, platforms-pass, initializations-pass, directives-pass, sheet-bytes, head-zeroes, head-page-size, within-limits, Accepts, accepts}}
+use Rattle.sheet_of.{specs.SheetOf.{Row, LimitsFit}, specs.Offered.bytesOf, specs.Lists.{RowLists, allRows, headWith, listsHeaders, sheetRows}, proofs.ListsLaws.{AllPass, ListsSound, lists-bytes, lists-head, lists-headers, lists-same, within-limits, lists-accepted}, proofs.OwnRows.{platforms-pass, initializations-pass, directives-pass, sheet-bytes, head-zeroes, head-page-size, own-lists}}
+use Rattle.answers.proofs.AnswerLaws.{accepted-readable, accepted-page-size, accepted-headers}
 use Rattle.order.specs.Demand.{Accepted}
 use Rattle.trimmed.specs.Trimmed.{Remain, remainingRows, trimmedSheet, Trimmable}
 use Rattle.trimmed.proofs.HeadersLaws.{trimmedHeaders, trimmed-within}
@@ -19,16 +21,19 @@ fewer-bytes : (remains : ℕ → Bool) (xs : Rows Row)
 fewer-bytes remains xs = sum-there (remaining-into remains xs Free) (λ r. length (r .body))
 
 module _ (l : Limits) (fit : LimitsFit l) (remain : Remain) (s : List ℕ) (T : Trimmable l remain s) where
-  known : Accepts l s
-  known = accepts l s (T .accepted)
+  readable : Readable l s
+  readable = accepted-readable l s (T .accepted)
 
   started : Started l s
-  started = readable-reads l s (known .readable) .start
+  started = readable-reads l s readable .start
+
+  page-size : pageSizeOf (revisionOf (headOf s)) ≡ 4096
+  page-size = accepted-page-size l s (T .accepted)
 
   rows : RowLists
   rows = remainingRows remain (sheetRows s)
 
-  sound : Sound l (headOf s) rows
+  sound : ListsSound l (headOf s) rows
   unfolding sheetRows rows
   sound =
       let st = started in
@@ -38,14 +43,14 @@ module _ (l : Limits) (fit : LimitsFit l) (remain : Remain) (s : List ℕ) (T : 
       record {
         reserved = z;
         reserved2 = z2;
-        page-size = head-page-size (headOf s) (st .layout) (known .page-size);
+        page-size = head-page-size (headOf s) (st .layout) page-size;
         layout = st .layout;
         platform-count = omega arith;
         initialization-count = omega arith;
         directive-count = omega arith;
-        platforms = platforms-pass l s (known .readable) (fit .bytes);
-        initializations = rows-pass initializationList (remain .initializations) (sheetRows s .initializations) (initializations-pass l s (known .readable) (fit .bytes));
-        directives = rows-pass directiveList (remain .directives) (sheetRows s .directives) (directives-pass l s (known .readable) (fit .bytes));
+        platforms = platforms-pass l s readable (fit .bytes);
+        initializations = rows-pass initializationList (remain .initializations) (sheetRows s .initializations) (initializations-pass l s readable (fit .bytes));
+        directives = rows-pass directiveList (remain .directives) (sheetRows s .directives) (directives-pass l s readable (fit .bytes));
       }
 
   pub trimmed-head : headOf (trimmedSheet remain s) ≡ headWith (headOf s) (remainingRows remain (sheetRows s))
@@ -57,13 +62,13 @@ module _ (l : Limits) (fit : LimitsFit l) (remain : Remain) (s : List ℕ) (T : 
   trimmed-headers = lists-headers l (headOf s) rows sound
 
   pub within : Within (trimmedHeaders remain (sheetHeaders s)) (sheetHeaders s)
-  within = trimmed-within l remain s (known .readable) (T .contexts) (T .areas)
+  within = trimmed-within l remain s readable (T .contexts) (T .areas)
 
   pub trimmed-not-refused : NotRefused (trimmedHeaders remain (sheetHeaders s))
   trimmed-not-refused =
       let f = sheetHeaders s in
       let g = trimmedHeaders remain f in
-      accepted-says g .1 (within-accepted g f within (accepted-says f .0 (known .headers)))
+      accepted-says g .1 (within-accepted g f within (accepted-says f .0 (accepted-headers l s (T .accepted))))
 
   rows-not-refused : NotRefused (listsHeaders (headOf s) rows)
   unfolding sheetHeaders listsHeaders sheetRows rows
@@ -76,7 +81,7 @@ module _ (l : Limits) (fit : LimitsFit l) (remain : Remain) (s : List ℕ) (T : 
       let b = count-le (sheetRows s .directives .count) (remain .directives) in
       let c = fewer-bytes (remain .initializations) (sheetRows s .initializations) in
       let d = fewer-bytes (remain .directives) (sheetRows s .directives) in
-      let e = sheet-bytes l s (known .readable) (fit .bytes) in
+      let e = sheet-bytes l s readable (fit .bytes) in
       let f = lists-bytes (headOf s) (remainingRows remain (sheetRows s)) in
       omega arith
 
@@ -87,5 +92,18 @@ module _ (l : Limits) (fit : LimitsFit l) (remain : Remain) (s : List ℕ) (T : 
       let a = count-le (headOf s .initializations) (remain .initializations) in
       let b = count-le (headOf s .directives) (remain .directives) in
       let c = fewer in
-      lists-accepted l (headOf s) rows sound (known .page-size)
+      lists-accepted l (headOf s) rows sound page-size
       (within-limits l _ _ (st .platforms) (omega arith) (omega arith) (omega arith)) rows-not-refused
+
+-- where nothing is dropped, the trimmed sheet is the sheet
+pub nothing-dropped : (l : Limits) (remain : Remain) (s : List ℕ) → Readable l s → IsBytes s
+    → ((i : ℕ) → i < headOf s .initializations → remain .initializations i ≡ true) → ((j : ℕ) → j < headOf s .directives → remain .directives j ≡ true)
+    → trimmedSheet remain s ≡ s
+unfolding trimmedSheet sheetRows
+nothing-dropped l remain s ok bytes a b =
+    lists-same (headOf s) (remainingRows remain (sheetRows s)) (sheetRows s) (record {
+      platforms = rows-refl (sheetRows s .platforms);
+      initializations = all-remain (remain .initializations) (sheetRows s .initializations) a;
+      directives = all-remain (remain .directives) (sheetRows s .directives) b;
+    })
+    ∙ own-lists l s ok bytes

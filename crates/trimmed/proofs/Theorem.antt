@@ -1,13 +1,13 @@
 -- Request 14: the theorem.
-use Rattle.rows.{proofs.Kit.{_≡_, refl, sym, ap, _∙_, Bool, true, false, cond, List, Option, none, some, inl, inr, ℕ, _+_, _*_, _/_, _<_, _≤_, arith, length}, specs.Below.{countBelow, nthBelow}, specs.Rows.rowAt, specs.Paired.Free, proofs.Bools.{which, and-both}, proofs.BelowLaws.{count-lt, nth-number}, proofs.PairedLaws.sum-there, proofs.RemainingLaws.{index-of, remaining-into}}
-use Rattle.igvm_defs.{specs.Refusals.{noRefusal, isRefusal}, proofs.RefusalLaws.orElse-later}
+use Rattle.rows.{proofs.Kit.{_≡_, sym, ap, _∙_, true, false, cond, _≢_, List, ℕ, _<_, _≤_, arith, length}, specs.Paired.Free, proofs.Bools.and-both, proofs.BelowLaws.{count-lt, nth-number}, proofs.PairedLaws.sum-there, proofs.RemainingLaws.remaining-into}
+use Rattle.igvm_defs.specs.Refusals.{noRefusal, isRefusal}
 use Rattle.lent.{specs.Lent.rowsPut, proofs.LentLaws.rows-same}
-use Rattle.sheet.specs.Head.{Limits, headOf}
+use Rattle.sheet.specs.Head.{Limits}
 use Rattle.sheet_headers.specs.Headers.{sheetHeaders}
-use Rattle.rules.{specs.Relocations.{isRelocatable, relocatableOf, regionCount, regionAt, pageTableAt, regionContains}, specs.Strict.contextsRefusal, specs.Options.then, proofs.QueryLaws.{number-below, region-found}, proofs.StrictLaws.{contexts-say, within-bits}, proofs.SameHeaders.{same-contexts, region-count-rows, region-at-rows, page-table-rows}}
-use Rattle.answers.{specs.Verdict.{verdictRefusal, verdictOf}, specs.Strict.strictVerdictOf, specs.Relocations.{sheetInitializations, relocationsRefusal, foundOf, relocationsOf, regionWords, wordsAfter, baseNumber, baseCheckOf, containsOf}, proofs.AnswerLaws.{regionsOf, accepted-none, list-says, list-refusal, list-fine, list-found, found-count}, proofs.SameRegion.{check-same, answer-same, range-same}, proofs.StrictLaws.{strictly-accepted, strict-accepted}}
+use Rattle.rules.{specs.Relocations.{isRelocatable, regionCount, regionAt, pageTableAt, regionContains}, specs.Strict.contextsRefusal, proofs.Acceptance.accepted-says, proofs.QueryLaws.{one-table, number-below, region-found}, proofs.StrictLaws.{contexts-say, within-bits}, proofs.SameHeaders.{same-contexts, region-count-rows, region-at-rows, page-table-rows}}
+use Rattle.answers.{specs.Verdict.verdictOf, specs.Strict.strictVerdictOf, specs.Relocations.{sheetInitializations, relocationsRefusal, foundOf, relocationsOf, regionWords, wordsAfter, baseNumber}, proofs.AnswerLaws.{regionsOf, accepted-headers, accepted-none, list-says, list-refusal, list-fine, list-found, found-count}, proofs.SameRegion.{check-same, answer-same, range-same}, proofs.StrictLaws.{strictly-accepted, strict-accepted}}
 use Rattle.sheet_of.specs.{SheetOf.LimitsFit, Lists.sheetRows}
-use Rattle.order.specs.{Demand.{Accepted, IsRegion, numberIn}, Strict.StrictlyAccepted}
+use Rattle.order.specs.{Demand.{Accepted, numberIn}, Strict.StrictlyAccepted}
 use Rattle.trimmed.specs.{Trimmed.{Remain, trimmedSheet, Trimmable}, Answers.{remainingVerdict, isRemainingRegion, remainingCount, remainingAt, remainingTable, Remains, newNumber, TrimmedAnswers}, Beside.TrimmedBeside}
 use Rattle.trimmed.proofs.{HeadersLaws.{trimmedHeaders, trimmed-count, trimmed-region, trimmed-table}, SheetLaws.{trimmed-head, trimmed-headers, within, trimmed-accepted}, OwnerLaws.{owner-remains, owner-dropped, no-owner}}
 
@@ -23,8 +23,11 @@ module _ (l : Limits) (fit : LimitsFit l) (remain : Remain) (s : List ℕ) (T : 
   at : (given k : ℕ) → regionAt (sheetInitializations (trimmedSheet remain s)) given k ≡ remainingAt remain (sheetInitializations s) given k
   at given k = region-at-rows (trimmed-headers l fit remain s T .initializations) given k ∙ trimmed-region remain (sheetInitializations s) given k
 
-  table : (given : ℕ) → pageTableAt (sheetInitializations (trimmedSheet remain s)) given ≡ remainingTable remain (sheetInitializations s) given
-  table given = page-table-rows (trimmed-headers l fit remain s T .initializations) given ∙ trimmed-table remain (sheetInitializations s) given
+  table : (given : ℕ) → given ≢ 0 → pageTableAt (sheetInitializations (trimmedSheet remain s)) given ≡ remainingTable remain (sheetInitializations s) given
+  table given nonzero =
+      let accepts = accepted-says (sheetHeaders s) .0 (accepted-headers l s (T .accepted)) in
+      page-table-rows (trimmed-headers l fit remain s T .initializations) given
+      ∙ trimmed-table remain (sheetInitializations s) given (one-table (sheetInitializations s) (accepts .tables) given nonzero)
 
   fewer : (given : ℕ) → regionsOf (trimmedSheet remain s) given ≤ regionsOf s given
   unfolding regionCount
@@ -47,7 +50,8 @@ module _ (l : Limits) (fit : LimitsFit l) (remain : Remain) (s : List ℕ) (T : 
   unfolding isRefusal
   list given bytes f =
       let e = nothing-refused given bytes f in
-      list-found l (trimmedSheet remain s) given bytes (rw e) ∙ rw (e, counts given, table given)
+      let (_, n, _) = list-says l s given bytes (rw (list-refusal l s given bytes) at f) in
+      list-found l (trimmedSheet remain s) given bytes (rw e) ∙ rw (e, counts given, table given n)
 
   words : (given : ℕ) (x : List ℕ) → isRefusal (relocationsOf l s given (length x) .refusal) ≡ false
       → wordsAfter l (trimmedSheet remain s) given x

@@ -1,8 +1,8 @@
 -- Request 14's conclusion: what the trimmed sheet answers, said of the definitions that the calls' contracts cite, and of the bytes that a caller lends.
-use Prim.Native.Nat.{ℕ, _<_}
-use mathlib.Core.Bool.{Bool, true, false, _&&_}
+use Prim.Native.Nat.{ℕ}
+use mathlib.Core.Bool.{Bool, true, false, cond, _&&_}
 use mathlib.Core.List.{List}
-use mathlib.Core.Option.{Option}
+use mathlib.Core.Option.{Option, none}
 use mathlib.Core.Path.{_≡_}
 use lib.ListN.{length}
 use Rattle.rows.specs.Below.{countBelow, nthBelow}
@@ -51,7 +51,8 @@ module _ (remain : Remain) (initializations : Rows IgvmInitializationHeader) (gi
   -- the mask's page-table region, if it remains
   unfoldable pub remainingTable : Option PageTableRegion
   remainingTable =
-      then (rowAt initializations (nthBelow (initializations .count) (λ j. isPageTable given (initializations .row j) && remain .initializations j) 0)) pageTableOf
+      then (nthBelow (initializations .count) (λ j. isPageTable given (initializations .row j)) 0)
+      (λ j. cond (remain .initializations j) (pageTableOf (initializations .row j)) none)
 
 -- ---- a region that remains
 
