@@ -1,1 +1,2 @@
 pub mod ImageB
+pub mod Made

@@ -1,2 +1,3 @@
 pub mod ImageB
 pub mod Claims
+pub mod Made

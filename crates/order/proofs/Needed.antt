@@ -2,7 +2,8 @@
 -- mask free to move, and with bytes left over. Each by two sheets, the first accepted and the second refused.
 use lib.Count.{ones, onesIn}
 use Rattle.rows.{proofs.Kit.{_≡_, refl, true≢false, _≢_}, specs.Below.{anyBelow, firstBelow, lastBelow, sumBelow}}
-use Rattle.le.specs.Le.{leAt}
+use Rattle.le.specs.{Le.{leAt, byteOf}, Bytes.{concatBelow, leBytes}}
+use Rattle.sheet_of.specs.{SheetOf.{headBytes, entryBytes, sheetOf}, Lists.listsSheet}
 use Rattle.igvm_defs.{specs.Refusals.{refusal, isFault, isRefusal, inRow, orElse, firstFault}, specs.Kinds.{spans, kindOf, fields, lengthOk}, specs.Platforms.{platformTypes, isPlatformType, platformTypeOf}, proofs.Runs._⨾_}
 use Rattle.masks.specs.Masks.{shares, isOneBit, hasBit, bitsBelow, firstMask}
 use Rattle.addresses.specs.Addresses.{isMultiple}
@@ -26,7 +27,7 @@ verdicts :
     × (Accepted limits plain)
     × (verdictRefusal limits longer ≡ refusal 6 0 0)
 unfolding
-    areaFirst areaLast insertLast insertFirst ccaLast ccaFirst plain longer ones onesIn anyBelow firstBelow lastBelow sumBelow leAt isFault isRefusal inRow orElse firstFault
+    listsSheet sheetOf headBytes entryBytes concatBelow leBytes byteOf areaFirst areaLast insertLast insertFirst ccaLast ccaFirst plain longer ones onesIn anyBelow firstBelow lastBelow sumBelow leAt isFault isRefusal inRow orElse firstFault
     spans kindOf lengthOk platformTypes isPlatformType platformTypeOf limits headOf layoutOk withinLimits startFault revisionOf pageSizeFault rowKind
     rowLength offsetOf bodyOf listAt codesOk rowFault endFault rowsRefusal readRefusal sheetRefusal platformOf initializationOf directiveOf shares
     isOneBit hasBit bitsBelow firstMask isMultiple regionPasses validatePlatform sameType ownPlatformFault platformFault lastIsCca bitWithoutCca initializationFault
@@ -42,7 +43,7 @@ all-asked a b ok head whole platforms initializations directives =
 
 -- directives naming one area must keep their order: here the area is named before it is allocated
 pub areas-keep : Statement Whole OneMask NoneTied → ⊥
-unfolding areaFirst areaLast isRefusal headOf rowKind rowLength offsetOf bodyOf kindOf spans fields leAt sumBelow
+unfolding listsSheet sheetOf headBytes entryBytes concatBelow leBytes byteOf areaFirst areaLast isRefusal headOf rowKind rowLength offsetOf bodyOf kindOf spans fields leAt sumBelow
 areas-keep f =
     let accepted = verdicts .0 in
     let refused = verdicts .1 in
@@ -52,7 +53,7 @@ areas-keep f =
 
 -- so must the inserts among them: here the area is inserted before it is allocated
 pub inserts-keep : Statement Whole OneMask OneAreaNotInserted → ⊥
-unfolding insertLast insertFirst isRefusal headOf rowKind rowLength offsetOf bodyOf kindOf spans fields leAt sumBelow
+unfolding listsSheet sheetOf headBytes entryBytes concatBelow leBytes byteOf insertLast insertFirst isRefusal headOf rowKind rowLength offsetOf bodyOf kindOf spans fields leAt sumBelow
 inserts-keep f =
     let accepted = verdicts .2 in
     let refused = verdicts .3 in
@@ -62,7 +63,7 @@ inserts-keep f =
 
 -- platforms of one mask must keep theirs: here CCA is the last no more
 pub platforms-keep : Statement Whole NoneTied OneArea → ⊥
-unfolding ccaLast ccaFirst isRefusal headOf rowKind rowLength offsetOf bodyOf kindOf spans fields leAt sumBelow
+unfolding listsSheet sheetOf headBytes entryBytes concatBelow leBytes byteOf ccaLast ccaFirst isRefusal headOf rowKind rowLength offsetOf bodyOf kindOf spans fields leAt sumBelow
 platforms-keep f =
     let accepted = verdicts .4 in
     let refused = verdicts .5 in
@@ -72,7 +73,7 @@ platforms-keep f =
 
 -- no byte may be left over
 pub nothing-left : Statement AnyEnd OneMask OneArea → ⊥
-unfolding plain longer isRefusal headOf rowKind rowLength offsetOf bodyOf kindOf spans fields leAt sumBelow
+unfolding listsSheet sheetOf headBytes entryBytes concatBelow leBytes byteOf plain longer isRefusal headOf rowKind rowLength offsetOf bodyOf kindOf spans fields leAt sumBelow
 nothing-left f =
     let accepted = verdicts .6 in
     let refused = verdicts .7 in

@@ -2,7 +2,8 @@
 -- refusals are not.
 use lib.Count.{ones, onesIn}
 use Rattle.rows.{proofs.Kit.{_≡_, refl, sym, ap, _∙_, List, ℕ, arith}, specs.Below.{anyBelow, firstBelow, lastBelow, sumBelow}}
-use Rattle.le.specs.Le.{leAt}
+use Rattle.le.specs.{Le.{leAt, byteOf}, Bytes.{concatBelow, leBytes}}
+use Rattle.sheet_of.specs.{SheetOf.{headBytes, entryBytes, sheetOf}, Lists.listsSheet}
 use Rattle.igvm_defs.{specs.declared.Refusal.Refusal, specs.Refusals.{refusal, isFault, isRefusal, inRow, orElse, firstFault}, specs.Kinds.{spans, kindOf, fields, lengthOk}, specs.Platforms.{platformTypes, isPlatformType, platformTypeOf}, specs.Vtls.vtlOf, proofs.Runs._⨾_}
 use Rattle.masks.specs.Masks.{shares, matches, isOneBit, hasBit, bitsBelow, firstMask}
 use Rattle.addresses.specs.Addresses.{isMultiple, meets, endsBeyond}
@@ -22,7 +23,7 @@ verdicts :
     × (strictRefusal limits lackingFirst ≡ refusal 38 2 2)
     × (strictRefusal limits lackingLast ≡ refusal 38 3 2)
 unfolding
-    sheetA lackingFirst lackingLast ones onesIn anyBelow firstBelow lastBelow sumBelow leAt isFault isRefusal inRow orElse firstFault spans kindOf lengthOk platformTypes
+    listsSheet sheetOf headBytes entryBytes concatBelow leBytes byteOf sheetA lackingFirst lackingLast ones onesIn anyBelow firstBelow lastBelow sumBelow leAt isFault isRefusal inRow orElse firstFault spans kindOf lengthOk platformTypes
     isPlatformType platformTypeOf vtlOf limits headOf layoutOk withinLimits startFault revisionOf pageSizeFault rowKind rowLength offsetOf bodyOf
     listAt codesOk rowFault endFault rowsRefusal readRefusal sheetRefusal platformOf initializationOf directiveOf shares matches isOneBit hasBit
     bitsBelow firstMask isMultiple meets endsBeyond regionPasses tablesShare overlap validatePlatform sameType ownPlatformFault platformFault lastIsCca validateRegion
@@ -36,7 +37,7 @@ pub strictly-B : StrictlyAccepted limits sheetB
 strictly-B = same-strict limits sheetA sheetB (accepted-readable limits sheetA accepted-A) reordered .0 (verdicts .0)
 
 lacking-reordered : Reordered lackingFirst lackingLast
-unfolding lackingFirst lackingLast headOf rowKind rowLength offsetOf bodyOf kindOf spans fields leAt sumBelow areaNamed
+unfolding listsSheet sheetOf headBytes entryBytes concatBelow leBytes byteOf lackingFirst lackingLast headOf rowKind rowLength offsetOf bodyOf kindOf spans fields leAt sumBelow areaNamed
 lacking-reordered =
     record {
       head = refl;

@@ -16,7 +16,7 @@ use Rattle.answers.specs.{declared.Relocations.Relocations, Verdict.{verdictRef
 use Rattle.sheet_of.{specs.SheetOf.{headBytes, entryBytes, sheetOf}, specs.Lists.{listsSheet, sheetRows}, proofs.SheetOfLaws.limits-fit}
 use Rattle.order.{specs.Sheets.{sheetA, insertLast}, proofs.Swap.accepted-A}
 use Rattle.trimmed.specs.{Trimmed.{trimmedSheet, directiveKind, isVbsContext, Trimmable}, Answers.{remainingCount, remainingTable, Remains, TrimmedAnswers}, Beside.TrimmedBeside, Sheets.{allBut, someDropped, someLeft, contextDropped, contextLess, areaDropped, areaLess, insertedDropped, insertLeft}}
-use Rattle.trimmed.proofs.Theorem.{trimmed-answers, trimmed-beside}
+use Rattle.trimmed.proofs.Theorem.{request-14, trimmed-beside}
 
 -- the trimmed sheets are these bytes
 pub sheets :
@@ -32,7 +32,7 @@ sheets = (refl, refl, refl, refl)
 -- ---- the premise is met
 
 pub some-trimmable : Trimmable limits someDropped sheetA
-unfolding sheetA headOf rowKind leAt sumBelow allBut
+unfolding listsSheet sheetOf headBytes entryBytes concatBelow leBytes byteOf sheetA headOf rowKind leAt sumBelow allBut
 some-trimmable =
     record {
       accepted = accepted-A;
@@ -47,20 +47,20 @@ some-trimmable =
 -- ---- and the theorem applies
 
 pub some-answers : TrimmedAnswers limits someDropped sheetA
-some-answers = trimmed-answers limits limits-fit someDropped sheetA some-trimmable
+some-answers = request-14 someDropped sheetA some-trimmable
 
 pub some-beside : TrimmedBeside limits someDropped sheetA
 some-beside = trimmed-beside limits limits-fit someDropped sheetA some-trimmable
 
 -- accepted with 2, 2 and 3 rows, which were 2, 4 and 4
 pub some-verdict : verdictOf limits someLeft ≡ record { refusal = noRefusal; platforms = 2; initializations = 2; directives = 3 }
-unfolding sheetA headOf leAt sumBelow allBut
+unfolding listsSheet sheetOf headBytes entryBytes concatBelow leBytes byteOf sheetA headOf leAt sumBelow allBut
 some-verdict = rw (sheets .0) at (some-answers .verdict)
 
 -- of two regions and a page table the second region is left
 old-list : relocationsOf limits sheetA 1 128 ≡ foundOf 2 (some (record { gpa = 0x104000; size = 0x2000; «used_size» = 0x1000; «vp_index» = 0; vtl = 0 })) noRefusal
 unfolding
-    sheetA ones onesIn anyBelow firstBelow lastBelow sumBelow nthBelow leAt isFault isRefusal inRow orElse firstFault spans kindOf lengthOk platformTypes
+    listsSheet sheetOf headBytes entryBytes concatBelow leBytes byteOf sheetA ones onesIn anyBelow firstBelow lastBelow sumBelow nthBelow leAt isFault isRefusal inRow orElse firstFault spans kindOf lengthOk platformTypes
     isPlatformType platformTypeOf vtlOf limits headOf layoutOk withinLimits startFault revisionOf pageSizeFault rowKind rowLength offsetOf bodyOf
     listAt codesOk rowFault endFault rowsRefusal readRefusal sheetRefusal platformOf initializationOf directiveOf shares matches isOneBit hasBit
     bitsBelow firstMask isMultiple meets endsBeyond regionPasses tablesShare overlap validatePlatform sameType ownPlatformFault platformFault lastIsCca validateRegion
@@ -71,18 +71,18 @@ old-list = refl
 
 pub some-list : relocationsOf limits someLeft 1 128 ≡ foundOf 1 none noRefusal
 unfolding
-    sheetA ones onesIn sumBelow nthBelow leAt vtlOf headOf rowKind rowLength offsetOf bodyOf initializationOf matches sheetHeaders allBut remainingCount remainingTable isRefusal
+    listsSheet sheetOf headBytes entryBytes concatBelow leBytes byteOf sheetA ones onesIn sumBelow nthBelow leAt vtlOf headOf rowKind rowLength offsetOf bodyOf initializationOf matches sheetHeaders allBut remainingCount remainingTable isRefusal
 some-list = rw (sheets .0) at (some-answers .relocations 1 128 (ap (λ (r : Relocations). isRefusal (r .refusal)) old-list))
 
 -- it is number 0 and was number 1, and the checks answer as they did
 second : Remains someDropped sheetA 1 1
-unfolding sheetA headOf rowKind rowLength offsetOf bodyOf leAt sumBelow sheetHeaders initializationOf matches allBut
+unfolding listsSheet sheetOf headBytes entryBytes concatBelow leBytes byteOf sheetA headOf rowKind rowLength offsetOf bodyOf leAt sumBelow sheetHeaders initializationOf matches allBut
 second = record { region = record { below = omega arith; relocatable = refl }; there = refl }
 
 pub some-checks : ((base : ℕ) → baseCheckOf limits someLeft 1 0 base ≡ baseCheckOf limits sheetA 1 1 base)
     × ((gpa : ℕ) → containsOf limits someLeft 1 0 gpa ≡ containsOf limits sheetA 1 1 gpa)
     × ((lowest highest : ℕ) → baseRangeOf limits someLeft 1 0 lowest highest ≡ baseRangeOf limits sheetA 1 1 lowest highest)
-unfolding sheetA headOf rowKind rowLength offsetOf bodyOf leAt sumBelow sheetHeaders initializationOf matches allBut
+unfolding listsSheet sheetOf headBytes entryBytes concatBelow leBytes byteOf sheetA headOf rowKind rowLength offsetOf bodyOf leAt sumBelow sheetHeaders initializationOf matches allBut
 some-checks = (
   λ base. rw (sheets .0) at (some-answers .base 1 1 second base),
   λ gpa. rw (sheets .0) at (some-answers .contains 1 1 second gpa),

@@ -2,7 +2,7 @@
 -- sheet that is accepted, and refused without the row.
 use lib.Count.{ones, onesIn}
 use Rattle.rows.{proofs.Kit.{_≡_, refl, true, false≢true, true≢false, arith}, specs.Below.{anyBelow, firstBelow, lastBelow, sumBelow}}
-use Rattle.le.specs.Le.{leAt}
+use Rattle.le.specs.{Le.{leAt, byteOf}, Bytes.{concatBelow, leBytes}}
 use Rattle.igvm_defs.{specs.Refusals.{refusal, isFault, isRefusal, inRow, orElse, firstFault}, specs.Kinds.{spans, kindOf, lengthOk}, specs.Platforms.{platformTypes, isPlatformType, platformTypeOf}, specs.Vtls.vtlOf, proofs.Runs.{_⨾_, each}}
 use Rattle.masks.specs.Masks.{shares, matches, isOneBit, hasBit, bitsBelow, firstMask}
 use Rattle.addresses.specs.Addresses.{isMultiple, meets, endsBeyond}
@@ -13,7 +13,7 @@ use Rattle.directive_header.specs.Directives.{directiveOf}
 use Rattle.sheet_headers.specs.Headers.{sheetHeaders}
 use Rattle.rules.{specs.Regions.{regionPasses, tablesShare, overlap}, specs.Platforms.{validatePlatform, sameType, ownPlatformFault, platformFault, lastIsCca}, specs.Initializations.{validateRegion, validateTable, bitWithoutCca, initializationFault}, specs.Directives.{wrongContextArch, allocates, inserts, isAllocated, badArea, ownDirectiveFault, directiveFault, noContext}, specs.Verdict.{noPlatform, noMatchingVpContext, platformsRefusal, initializationsRefusal, directivesRefusal, headersRefusal}}
 use Rattle.answers.specs.Verdict.{verdictRefusal}
-use Rattle.sheet_of.proofs.SheetOfLaws.{limits-fit}
+use Rattle.sheet_of.{specs.SheetOf.{headBytes, entryBytes, sheetOf}, specs.Lists.listsSheet, proofs.SheetOfLaws.limits-fit}
 use Rattle.order.{specs.Sheets.{sheetA, insertLast}, specs.Demand.Accepted, proofs.Swap.accepted-A}
 use Rattle.trimmed.specs.{Trimmed.{directiveKind, isVbsContext, ContextsRemain, AreasRemain}, Weakened.{Statement, Both, InsertsNameNone}, Sheets.{allBut, contextDropped, contextLess, areaDropped, areaLess, insertedDropped, insertLeft}}
 use Rattle.trimmed.proofs.{SheetLaws.trimmed-accepted, Examples.sheets}
@@ -24,7 +24,7 @@ verdicts :
     × (Accepted limits insertLast)
     × (verdictRefusal limits insertLeft ≡ refusal 32 2 0)
 unfolding
-    contextLess areaLess insertLast insertLeft ones onesIn anyBelow firstBelow lastBelow sumBelow leAt isFault isRefusal inRow orElse firstFault spans kindOf lengthOk platformTypes
+    listsSheet sheetOf headBytes entryBytes concatBelow leBytes byteOf contextLess areaLess insertLast insertLeft ones onesIn anyBelow firstBelow lastBelow sumBelow leAt isFault isRefusal inRow orElse firstFault spans kindOf lengthOk platformTypes
     isPlatformType platformTypeOf vtlOf limits headOf layoutOk withinLimits startFault revisionOf pageSizeFault rowKind rowLength offsetOf bodyOf
     listAt codesOk rowFault endFault rowsRefusal readRefusal sheetRefusal platformOf initializationOf directiveOf shares matches isOneBit hasBit
     bitsBelow firstMask isMultiple meets endsBeyond regionPasses tablesShare overlap validatePlatform sameType ownPlatformFault platformFault lastIsCca validateRegion
@@ -38,7 +38,7 @@ both-asked remain s accepted (contexts, areas) = trimmed-accepted limits limits-
 
 -- all contexts must remain: without the one of this sheet its regions have none (34)
 pub contexts-needed : Statement AreasRemain → ⊥
-unfolding sheetA headOf rowKind leAt sumBelow allBut isRefusal
+unfolding listsSheet sheetOf headBytes entryBytes concatBelow leBytes byteOf sheetA headOf rowKind leAt sumBelow allBut isRefusal
 contexts-needed f =
     let areas : AreasRemain contextDropped sheetA = λ i area _ _ _ j below k _.
     each (λ j. directiveKind sheetA j ≡ 33 → contextDropped .directives j ≡ true) 0 4
@@ -47,7 +47,7 @@ contexts-needed f =
 
 -- so must areas that a remaining row names: without it the parameter names none (32)
 contexts-there : ContextsRemain areaDropped sheetA
-unfolding sheetA headOf rowKind leAt sumBelow allBut
+unfolding listsSheet sheetOf headBytes entryBytes concatBelow leBytes byteOf sheetA headOf rowKind leAt sumBelow allBut
 contexts-there j below =
     each (λ j. isVbsContext (directiveKind sheetA j) ≡ true → areaDropped .directives j ≡ true) 0 4
     ((λ e. refl) ⨾ (λ e. absurd (false≢true e)) ⨾ (λ e. refl) ⨾ (λ e. refl) ⨾ tt) j (omega arith) below
@@ -58,7 +58,7 @@ areas-needed f = true≢false (rw (sheets .2, verdicts .1) at (f areaDropped she
 
 -- and inserts name theirs too (32)
 pub inserts-name : Statement InsertsNameNone → ⊥
-unfolding insertLast headOf rowKind leAt sumBelow allBut isRefusal
+unfolding listsSheet sheetOf headBytes entryBytes concatBelow leBytes byteOf insertLast headOf rowKind leAt sumBelow allBut isRefusal
 inserts-name f =
     let must : InsertsNameNone insertedDropped insertLast = (
       λ j below.

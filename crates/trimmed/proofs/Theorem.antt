@@ -2,11 +2,11 @@
 use Rattle.rows.{proofs.Kit.{_≡_, sym, ap, _∙_, true, false, cond, _≢_, List, ℕ, _<_, _≤_, arith, length}, specs.Paired.Free, proofs.Bools.and-both, proofs.BelowLaws.{count-lt, nth-number}, proofs.PairedLaws.sum-there, proofs.RemainingLaws.remaining-into}
 use Rattle.igvm_defs.specs.Refusals.{noRefusal, isRefusal}
 use Rattle.lent.{specs.Lent.rowsPut, proofs.LentLaws.rows-same}
-use Rattle.sheet.specs.Head.{Limits}
+use Rattle.sheet.specs.Head.{Limits, limits}
 use Rattle.sheet_headers.specs.Headers.{sheetHeaders}
 use Rattle.rules.{specs.Relocations.{isRelocatable, regionCount, regionAt, pageTableAt, regionContains}, specs.Strict.contextsRefusal, proofs.Acceptance.accepted-says, proofs.QueryLaws.{one-table, number-below, region-found}, proofs.StrictLaws.{contexts-say, within-bits}, proofs.SameHeaders.{same-contexts, region-count-rows, region-at-rows, page-table-rows}}
 use Rattle.answers.{specs.Verdict.verdictOf, specs.Strict.strictVerdictOf, specs.Relocations.{sheetInitializations, relocationsRefusal, foundOf, relocationsOf, regionWords, wordsAfter, baseNumber}, proofs.AnswerLaws.{regionsOf, accepted-headers, accepted-none, list-says, list-refusal, list-fine, list-found, found-count}, proofs.SameRegion.{check-same, answer-same, range-same}, proofs.StrictLaws.{strictly-accepted, strict-accepted}}
-use Rattle.sheet_of.specs.{SheetOf.LimitsFit, Lists.sheetRows}
+use Rattle.sheet_of.{specs.SheetOf.LimitsFit, specs.Lists.sheetRows, proofs.SheetOfLaws.limits-fit}
 use Rattle.order.specs.{Demand.{Accepted, numberIn}, Strict.StrictlyAccepted}
 use Rattle.trimmed.specs.{Trimmed.{Remain, trimmedSheet, Trimmable}, Answers.{remainingVerdict, isRemainingRegion, remainingCount, remainingAt, remainingTable, Remains, newNumber, TrimmedAnswers}, Beside.TrimmedBeside}
 use Rattle.trimmed.proofs.{HeadersLaws.{trimmedHeaders, trimmed-count, trimmed-region, trimmed-table}, SheetLaws.{trimmed-head, trimmed-headers, within, trimmed-accepted}, OwnerLaws.{owner-remains, owner-dropped, no-owner}}
@@ -95,7 +95,7 @@ module _ (l : Limits) (fit : LimitsFit l) (remain : Remain) (s : List ℕ) (T : 
       rw (same-contexts (trimmed-headers l fit remain s T)) (contexts-say g .1 (within-bits g f (within l fit remain s T) bits)) in
       rw (strict-accepted l (trimmedSheet remain s) (strictly-accepted l (trimmedSheet remain s) .1 (accepted, contexts-say (sheetHeaders (trimmedSheet remain s)) .0 c)), trimmed-head l fit remain s T)
 
-  -- REQUEST 14
+  -- REQUEST 14, for any limits that the fields of head and table can hold
   pub trimmed-answers : TrimmedAnswers l remain s
   trimmed-answers =
       record {
@@ -119,3 +119,7 @@ module _ (l : Limits) (fit : LimitsFit l) (remain : Remain) (s : List ℕ) (T : 
         dropped = λ given gpa j e r. owner-dropped l fit remain s T given gpa j e r;
         none = λ given gpa e. no-owner l fit remain s T given gpa e;
       }
+
+-- under the limits in force
+pub request-14 : (remain : Remain) (s : List ℕ) → Trimmable limits remain s → TrimmedAnswers limits remain s
+request-14 remain s T = trimmed-answers limits limits-fit remain s T

@@ -1,9 +1,9 @@
--- The examples: rows dropped from a sheet, and the sheets that are left, byte for byte.
+-- The examples: rows dropped from a sheet, and the sheets that are left.
 use Prim.Native.Nat.{ℕ}
 use mathlib.Core.Bool.{Bool, true, not, _&&_}
 use mathlib.Core.List.{List, [], _∷_}
 use lib.Dec.{eqb}
-use Rattle.order.specs.Sheets.{sheetOf, platform, ccaPolicy, region, pageTable, pageData, parameterArea, vpCount, parameterInsert, aarch64Vbs}
+use Rattle.order.specs.Sheets.{aarch64Sheet, platform, ccaPolicy, region, pageTable, pageData, parameterArea, vpCount, parameterInsert, aarch64Vbs}
 use Rattle.trimmed.specs.Trimmed.{Remain}
 
 -- every index but these
@@ -23,7 +23,7 @@ someDropped = dropping (0 ∷ 2 ∷ []) (3 ∷ [])
 
 unfoldable pub someLeft : List ℕ
 someLeft =
-    sheetOf (platform 1 6 ∷ platform 2 1 ∷ []) (region 0x102000 ∷ ccaPolicy (1 ∷ 2 ∷ []) ∷ [])
+    aarch64Sheet (platform 1 6 ∷ platform 2 1 ∷ []) (region 0x102000 ∷ ccaPolicy (1 ∷ 2 ∷ []) ∷ [])
     (aarch64Vbs (170 ∷ 187 ∷ []) ∷ parameterArea (1 ∷ 2 ∷ 3 ∷ []) ∷ vpCount ∷ [])
 
 -- the context
@@ -32,7 +32,7 @@ contextDropped = dropping [] (0 ∷ [])
 
 unfoldable pub contextLess : List ℕ
 contextLess =
-    sheetOf (platform 1 6 ∷ platform 2 1 ∷ []) (region 0x100000 ∷ region 0x102000 ∷ pageTable 0x104000 ∷ ccaPolicy (1 ∷ 2 ∷ []) ∷ [])
+    aarch64Sheet (platform 1 6 ∷ platform 2 1 ∷ []) (region 0x100000 ∷ region 0x102000 ∷ pageTable 0x104000 ∷ ccaPolicy (1 ∷ 2 ∷ []) ∷ [])
     (parameterArea (1 ∷ 2 ∷ 3 ∷ []) ∷ vpCount ∷ pageData (4 ∷ 5 ∷ []) ∷ [])
 
 -- the area, but not the parameter in it
@@ -41,7 +41,7 @@ areaDropped = dropping [] (1 ∷ [])
 
 unfoldable pub areaLess : List ℕ
 areaLess =
-    sheetOf (platform 1 6 ∷ platform 2 1 ∷ []) (region 0x100000 ∷ region 0x102000 ∷ pageTable 0x104000 ∷ ccaPolicy (1 ∷ 2 ∷ []) ∷ [])
+    aarch64Sheet (platform 1 6 ∷ platform 2 1 ∷ []) (region 0x100000 ∷ region 0x102000 ∷ pageTable 0x104000 ∷ ccaPolicy (1 ∷ 2 ∷ []) ∷ [])
     (aarch64Vbs (170 ∷ 187 ∷ []) ∷ vpCount ∷ pageData (4 ∷ 5 ∷ []) ∷ [])
 
 -- ---- of `insertLast`, which has an area and its insert: the area
@@ -50,4 +50,4 @@ abbrev pub insertedDropped : Remain
 insertedDropped = dropping [] (0 ∷ [])
 
 unfoldable pub insertLeft : List ℕ
-insertLeft = sheetOf (platform 1 6 ∷ []) [] (parameterInsert ∷ [])
+insertLeft = aarch64Sheet (platform 1 6 ∷ []) [] (parameterInsert ∷ [])

@@ -13,7 +13,7 @@ use Rattle.directive_header.specs.Fields.{areaNamed}
 use Rattle.sheet_of.specs.Lists.{RowLists, listsSheet, sheetRows}
 use Rattle.order.specs.Demand.{Accepted}
 
--- all platform rows remain
+-- which rows remain; all platform rows do
 pub record Remain : Type 0 where
   pub initializations : ℕ → Bool
   pub directives : ℕ → Bool
