@@ -95,7 +95,7 @@ impl Placed {
             Question::Owner => self.region_of.is_some(),
             Question::Index => self.region_index.is_some(),
             Question::Lookups => self.region_in.is_some(),
-            Question::Loader => false,
+            Question::Loader | Question::Trimmed => false,
             Question::Accepted | Question::Refused(_) | Question::Relocations | Question::Check => true,
         }
     }

@@ -14,6 +14,7 @@ use crate::report::{self, Answered};
 use crate::sheet::{hex, Image, Row};
 use crate::short::{native, one_page, page_table, vbs, vsm};
 use crate::tally::{refusals, Tally};
+use crate::trimming::{Choice, RULE};
 use crate::{caught, faulty, generate, large, paper, plan, region, short, shrink, speed, strict};
 use calls::Calls;
 use oracle::Headers;
@@ -56,6 +57,7 @@ pub fn run(seed: u64, folder: &str, check: bool) -> Result<(), String> {
     cases.extend(sample_of_reports(seed)?);
     cases.extend(owner_cases()?);
     cases.extend(lookups(seed)?);
+    cases.extend(trimmed_cases()?);
     cases.extend(large_sheets()?);
     catch_wrong_copies(seed, &mut cases)?;
     cases.sort_by_key(|case| (case.number(), case.code()));
@@ -429,6 +431,31 @@ fn owner_cases() -> Result<Vec<Case>, String> {
         [(0, 0), (1, 0x100000), (1, 0x102000)].into_iter().for_each(|(mask, gpa)| add(&sheet, Call::RegionOf { mask, gpa }));
         [(0, 0), (1, 0), (1, 24)].into_iter().for_each(|(mask, lent)| add(&sheet, Call::RegionIndex { mask, lent }));
     }
+    cases.into_iter().collect()
+}
+
+/// That image with an area that is used and inserted, and what is left of it where the policy, a region, the page table, the insert and a page are dropped: the
+/// verdicts, region lists, the checks of the one region of mask 1 that is left, by its number in either sheet, addresses of regions that are dropped and that are
+/// left, and an index. And the verdicts without a row that has to remain, the context (34) and the area (32).
+fn trimmed_cases() -> Result<Vec<Case>, String> {
+    let mut image = owned();
+    image.lists[2].extend([Row::new(33, &[0x1000, 7]), Row::new(34, &[7, 0]), Row::new(50, &[0, 1, 7]), Row::new(32, &[0, 1, 0, 0])]);
+    let sheet = image.bytes();
+    let without = |dropped: &[usize]| {
+        let kept: Vec<bool> = (1..=image.lists.concat().len()).map(|row| !dropped.contains(&row)).collect();
+        (RULE.sheet)(&Choice { sheet: &sheet, kept: &kept })
+    };
+    let mut cases = Vec::new();
+    let mut add = |sheet: &[u8], call: Call| cases.push(Case::new(sheet, &Rust::of(sheet), call));
+    for (sheet, region) in [(without(&[]), 1), (without(&[4, 5, 8, 13, 14]), 0)] {
+        [Call::Verdict, Call::StrictVerdict].into_iter().for_each(|call| add(&sheet, call));
+        [1, 2, 3, 4].into_iter().for_each(|mask| add(&sheet, Call::Relocations { mask, lent: 200 }));
+        [0x9000, 0x9001, 1 << 40].into_iter().for_each(|base| add(&sheet, Call::BaseValid { mask: 1, region, base }));
+        [0x8FFF, 0x9000].into_iter().for_each(|gpa| add(&sheet, Call::Contains { mask: 1, region, gpa }));
+        [0x2000, 0x5000, 0x9000].into_iter().for_each(|gpa| add(&sheet, Call::RegionOf { mask: 1, gpa }));
+        add(&sheet, Call::RegionIndex { mask: 1, lent: 80 });
+    }
+    [without(&[10]), without(&[11])].iter().for_each(|sheet| add(sheet, Call::Verdict));
     cases.into_iter().collect()
 }
 

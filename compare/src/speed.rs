@@ -6,7 +6,7 @@ use crate::random::Random;
 use crate::region::{by_plain, words};
 use crate::sheet::{Image, Row};
 use crate::short::{native, page_table, region, vbs};
-use crate::{loader, owner, paper, plain, ranges, report, strict};
+use crate::{loader, owner, paper, plain, ranges, report, strict, trimmed};
 use calls::Calls;
 use oracle::{Headers, IgvmFile, Relocated};
 use std::hint::black_box;
@@ -105,6 +105,8 @@ pub enum Question {
     Relocations,
     /// what a loader does with the headers, by crate sapyullu
     Loader,
+    /// the sheet of an accepted image without every second directive row, by crate sapyullu
+    Trimmed,
     /// the base check by the words of the one region, at bases from this one on
     Bases(u64),
     /// the base check by the sheet, of the last region, at the highest base that is valid
@@ -122,7 +124,7 @@ pub enum Question {
     /// lookups in that index, of addresses all over
     Lookups,
 }
-use Question::{Accepted, Bases, Check, Index, Loader, Lookups, Numbers, Owner, Range, Refused, Relocations, Report, Strict};
+use Question::{Accepted, Bases, Check, Index, Loader, Lookups, Numbers, Owner, Range, Refused, Relocations, Report, Strict, Trimmed};
 
 /// How many bases are checked at a time, since a check is as short as what it takes to measure one.
 const BASES: u64 = 64;
@@ -226,7 +228,7 @@ impl Case {
             Owner => paper::region_of(sheet, 1, self.highest_address())[3],
             Index => self.regions.len() as u64,
             Lookups => self.sum_of_rows(|gpa| paper::region_of(sheet, 1, gpa)[3]),
-            Accepted | Numbers | Relocations | Loader | Bases(_) => 0,
+            Accepted | Numbers | Relocations | Loader | Trimmed | Bases(_) => 0,
         }
     }
 
@@ -253,6 +255,15 @@ impl Case {
         if let Some(load) = loader::BY_LIBRARY.filter(|_| self.question == Loader) {
             let hold = load(&self.headers).0;
             assert_eq!((hold, loader::by_rust(self.headers.clone()).0), (63, 63), "{}: both checks hold for each region", self.name);
+        }
+        if let Some(trim) = trimmed::HALF.filter(|_| self.question == Trimmed) {
+            let [.., directives] = paper::verdict(&trim(&self.sheet));
+            assert_eq!(
+                directives,
+                self.headers.directives.len().div_ceil(2) as u64,
+                "{}: accepted, with half of the directive rows",
+                self.name
+            );
         }
     }
 
@@ -336,13 +347,13 @@ impl Case {
     /// headers, and bases are checked by a region's words. The Rust has no check of a range, no strict verdict, no report and no region of an address, and beside a
     /// range stands the check of a base. Beside the report on an image with faulty rows the verdict, which ends at the first of them, does not stand.
     pub fn has(&self, side: Side) -> bool {
-        let is_of_rust = !matches!(self.question, Range | Strict(_) | Report(_) | Owner | Index | Lookups);
+        let is_of_rust = !matches!(self.question, Range | Strict(_) | Report(_) | Owner | Index | Lookups | Trimmed);
         match side {
             Alone => self.question == Relocations,
-            Verdict => matches!(self.question, Numbers | Relocations | Check | Range | Strict(_) | Report(0) | Owner | Index),
+            Verdict => matches!(self.question, Numbers | Relocations | Check | Range | Strict(_) | Report(0) | Owner | Index | Trimmed),
             Base => self.question == Range,
             Search => self.question == Lookups,
-            Plain => !matches!(self.question, Relocations | Loader | Check),
+            Plain => !matches!(self.question, Relocations | Loader | Check | Trimmed),
             Bytes => is_of_rust && !matches!(self.question, Loader | Bases(_)),
             Ready => is_of_rust,
             Library => true,
@@ -361,7 +372,7 @@ impl Case {
             Report(_) => (calls.report)(sheet, lent, 6),
             Owner => (calls.region_of)(sheet, 1, self.highest_address(), 3),
             Index => (calls.region_index)(sheet, 1, lent, 3),
-            Loader | Bases(_) | Lookups => unreachable!("more than one call"),
+            Loader | Trimmed | Bases(_) | Lookups => unreachable!("no call, or more than one"),
         }
     }
 
@@ -413,6 +424,7 @@ impl Case {
     fn round(&self, calls: &Calls, side: Side, times: usize) -> Duration {
         match side {
             Library if self.question == Loader => self.load(times),
+            Library if self.question == Trimmed => self.trim(times),
             Library if self.has_bases() => self.check_bases(calls.region_base_valid, times),
             Library if self.question == Lookups => self.look_up(|gpa| (calls.region_in)(black_box(&self.index), gpa), times),
             Library => self.asked(calls, self.question, self.answer, times),
@@ -427,6 +439,13 @@ impl Case {
         let load = loader::BY_LIBRARY.expect("the library");
         load(&self.headers);
         time(vec![(); times], |()| load(black_box(&self.headers)))
+    }
+
+    /// So many sheets without every second directive row by crate sapyullu.
+    fn trim(&self, times: usize) -> Duration {
+        let trim = trimmed::HALF.expect("the library");
+        trim(&self.sheet);
+        time(vec![(); times], |()| trim(black_box(&self.sheet)))
     }
 
     /// So many calls of a side that is not the library.
@@ -550,6 +569,10 @@ fn each_case(each: &mut dyn FnMut(String, &dyn Fn(String) -> Case)) {
     add("numbers-64".into(), Numbers, &|| initializations(64));
     if loader::BY_LIBRARY.is_some() {
         add("loader-64".into(), Loader, &|| with_table(64));
+        for rows in MOST {
+            add(format!("trimmed-pages-{rows}"), Trimmed, &|| pages(rows, 0));
+            add(format!("trimmed-full-pages-{rows}"), Trimmed, &|| pages(rows, 4096));
+        }
     }
     add("relocations-b".into(), Relocations, &b);
     add("numbers-b".into(), Numbers, &b);

@@ -605,14 +605,27 @@ fn numbers((numbers, _): Answer) -> [u64; 6] {
     numbers.try_into().unwrap()
 }
 
-/// Crate sapyullu's function on a sheet's bytes. Each gives 1, for one sheet or refusal.
+/// By crate sapyullu, if the library was there when this program was built: the sheet without every second directive row.
+#[cfg(library)]
+pub const HALF: Option<fn(&[u8]) -> Vec<u8>> = Some(host::half);
+#[cfg(not(library))]
+pub const HALF: Option<fn(&[u8]) -> Vec<u8>> = None;
+
+/// Crate sapyullu's function on a sheet's bytes. Each but the first gives 1, for one sheet or refusal.
 #[cfg(library)]
 mod host {
     use crate::paper;
     use crate::random::Random;
     use crate::sheet::Row;
     use crate::trimming::Choice;
-    use sapyullu::{Place, TrimError};
+    use sapyullu::{List, Place, TrimError};
+
+    /// The sheet without every second directive row, from the second on. None of them has to remain.
+    pub fn half(sheet: &[u8]) -> Vec<u8> {
+        let directives = u16::from_le_bytes([sheet[12], sheet[13]]);
+        let dropped = (1..usize::from(directives)).step_by(2).map(|index| Place { list: List::Directive, index });
+        sapyullu::trimmed(sheet, dropped).expect("rows that may go")
+    }
 
     /// The places of the dropped rows, in an order that differs from case to case, and the first of them twice.
     fn dropped(case: u64, choice: &Choice) -> Vec<Place> {
