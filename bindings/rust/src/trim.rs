@@ -3,7 +3,7 @@
 use crate::place::row_counts;
 use crate::sheet::{ENTRY_BYTES, HEAD_BYTES};
 use crate::{verdict, List, Place, Refusal, Sheet, SheetError};
-use std::collections::{BTreeMap, BTreeSet};
+use std::collections::BTreeMap;
 use std::fmt;
 
 /// Why headers can't be dropped from a sheet: the first that applies, in the order below.
@@ -130,13 +130,13 @@ impl Sheet {
     /// header names, by the first such area in the sheet.
     pub fn trimmed(&self, dropped: impl IntoIterator<Item = Place>) -> Result<Sheet, TrimError> {
         let counts = [self.platform_headers.len(), self.initialization_headers.len(), self.directive_headers.len()];
-        let dropped = places(counts, dropped)?;
-        may_be_dropped(&self.bytes()?, &dropped)?;
+        let dropped = Dropped::of(counts, dropped)?;
+        dropped.may_go(&self.bytes()?)?;
         Ok(Sheet {
             revision: self.revision,
             platform_headers: self.platform_headers.clone(),
-            initialization_headers: remaining(List::Initialization, &self.initialization_headers, &dropped),
-            directive_headers: remaining(List::Directive, &self.directive_headers, &dropped),
+            initialization_headers: dropped.rest(List::Initialization, &self.initialization_headers),
+            directive_headers: dropped.rest(List::Directive, &self.directive_headers),
         })
     }
 }
@@ -167,9 +167,9 @@ impl Sheet {
 ///
 /// As [`Sheet::trimmed`] does, where the places are held to the numbers of rows in the sheet's head. Bytes that are too short to have a head have no header.
 pub fn trimmed(sheet: &[u8], dropped: impl IntoIterator<Item = Place>) -> Result<Vec<u8>, TrimError> {
-    let dropped = places(row_counts(sheet).unwrap_or_default(), dropped)?;
-    may_be_dropped(sheet, &dropped)?;
-    let remaining = || rows(sheet).filter(|row| !dropped.contains(&row.place));
+    let dropped = Dropped::of(row_counts(sheet).unwrap_or_default(), dropped)?;
+    dropped.may_go(sheet)?;
+    let remaining = || rows(sheet).filter(|row| !dropped.has(row.place));
     let mut counts = [0_u16; 3];
     remaining().for_each(|row| counts[row.place.list as usize] += 1);
     let mut bytes = Vec::with_capacity(HEAD_BYTES + remaining().map(|row| ENTRY_BYTES + row.body.len()).sum::<usize>());
@@ -181,41 +181,52 @@ pub fn trimmed(sheet: &[u8], dropped: impl IntoIterator<Item = Place>) -> Result
     Ok(bytes)
 }
 
-/// The places, each once, if lists of these lengths have a header at each, and none is of a platform.
-fn places(counts: [usize; 3], dropped: impl IntoIterator<Item = Place>) -> Result<BTreeSet<Place>, TrimError> {
-    let found = |place: Place| match place.list {
-        list if place.index >= counts[list as usize] => Err(TrimError::NoSuchHeader { place }),
-        List::Platform => Err(TrimError::PlatformHeader { place }),
-        List::Initialization | List::Directive => Ok(place),
-    };
-    dropped.into_iter().map(found).collect()
-}
+/// Of each list whether a header is dropped, by its index.
+struct Dropped([Vec<bool>; 3]);
 
-/// The headers of a list that are not dropped.
-fn remaining<T: Clone>(list: List, headers: &[T], dropped: &BTreeSet<Place>) -> Vec<T> {
-    let remains = |&(index, _): &(usize, &T)| !dropped.contains(&Place { list, index });
-    headers.iter().enumerate().filter(remains).map(|(_, header)| header.clone()).collect()
-}
+impl Dropped {
+    /// The headers at these places, if lists of these lengths have one at each, and none is of a platform.
+    fn of(counts: [usize; 3], places: impl IntoIterator<Item = Place>) -> Result<Dropped, TrimError> {
+        let mut dropped = counts.map(|count| vec![false; count]);
+        for place in places {
+            let header = dropped[place.list as usize].get_mut(place.index).ok_or(TrimError::NoSuchHeader { place })?;
+            if place.list == List::Platform {
+                return Err(TrimError::PlatformHeader { place });
+            }
+            *header = true;
+        }
+        Ok(Dropped(dropped))
+    }
 
-/// That the sheet is accepted, and so is what is left of it: no VBS context is dropped, and no parameter area that a remaining row names.
-fn may_be_dropped(sheet: &[u8], dropped: &BTreeSet<Place>) -> Result<(), TrimError> {
-    verdict(sheet)?;
-    let dropped_rows = || rows(sheet).filter(|row| dropped.contains(&row.place));
-    if let Some(Row { place, .. }) = dropped_rows().find(Row::is_vbs_context) {
-        return Err(TrimError::VbsVpContext { place });
+    fn has(&self, place: Place) -> bool {
+        self.0[place.list as usize].get(place.index).is_some_and(|dropped| *dropped)
     }
-    let mut named = BTreeMap::new();
-    for row in rows(sheet).filter(|row| !dropped.contains(&row.place)) {
-        if let Some(area) = row.named_area() {
-            named.entry(area).or_insert(row.place);
+
+    /// The headers of a list that remain.
+    fn rest<T: Clone>(&self, list: List, headers: &[T]) -> Vec<T> {
+        headers.iter().zip(&self.0[list as usize]).filter(|(_, dropped)| !**dropped).map(|(header, _)| header.clone()).collect()
+    }
+
+    /// That the sheet is accepted, and so is what is left of it: no VBS context is dropped, and no parameter area that a remaining row names.
+    fn may_go(&self, sheet: &[u8]) -> Result<(), TrimError> {
+        verdict(sheet)?;
+        let dropped_rows = || rows(sheet).filter(|row| self.has(row.place));
+        if let Some(Row { place, .. }) = dropped_rows().find(Row::is_vbs_context) {
+            return Err(TrimError::VbsVpContext { place });
         }
-    }
-    for row in dropped_rows() {
-        if let Some((parameter_area_index, &named_by)) = row.allocated_area().and_then(|area| Some((area, named.get(&area)?))) {
-            return Err(TrimError::NamedParameterArea { place: row.place, parameter_area_index, named_by });
+        let mut named = BTreeMap::new();
+        for row in rows(sheet).filter(|row| !self.has(row.place)) {
+            if let Some(area) = row.named_area() {
+                named.entry(area).or_insert(row.place);
+            }
         }
+        for row in dropped_rows() {
+            if let Some((parameter_area_index, &named_by)) = row.allocated_area().and_then(|area| Some((area, named.get(&area)?))) {
+                return Err(TrimError::NamedParameterArea { place: row.place, parameter_area_index, named_by });
+            }
+        }
+        Ok(())
     }
-    Ok(())
 }
 
 /// A row of a sheet: its entry of the table of contents, and its body.
