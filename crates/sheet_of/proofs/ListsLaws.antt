@@ -59,7 +59,7 @@ lists-same h x y S =
     ∙ rw (S .platforms .count, S .initializations .count, S .directives .count)
 
 -- all that makes the sheet readable
-pub record ListsSound (l : Limits) (h : SheetHead) (x : RowLists) : Type 0 where
+pub record ListsSound (h : SheetHead) (x : RowLists) : Type 0 where
   pub reserved : h .reserved ≡ 0
   pub reserved2 : h .reserved2 ≡ 0
   pub page-size : h .«page_size» < 4294967296
@@ -76,7 +76,7 @@ kind-small list r (inl e) p = let k = platform-kind (r .kind) (p .of-list ∙ e)
 kind-small list r (inr (inl e)) p = let k = initialization-kind (r .kind) (p .of-list ∙ e) in omega arith
 kind-small list r (inr (inr e)) p = let k = directive-kind (r .kind) (p .of-list ∙ e) in omega arith
 
-module _ (l : Limits) (h : SheetHead) (x : RowLists) (s : ListsSound l h x) where
+module _ (h : SheetHead) (x : RowLists) (s : ListsSound h x) where
   row-passes : (k : ℕ) → In x k → Passes (listAt (headWith h x) k) (allRows x .row k) × (length (allRows x .row k .body) < 4294967296) × (allRows x .row k .kind < 4294967296)
   row-passes k (platform i z m e) =
       let (p, n) = s .platforms i m in
@@ -129,9 +129,9 @@ module _ (l : Limits) (h : SheetHead) (x : RowLists) (s : ListsSound l h x) wher
   lists-headers = headers-trans (headers-are (headWith h x) (allRows x .row) lists-fit) decoded-lists
 
   -- ---- readable within the limits
-  pub lists-readable : withinLimits l (headWith h x) (bytesOf (headWith h x) (allRows x .row)) ≡ true → Readable l (listsSheet h x)
+  pub lists-readable : (l : Limits) → withinLimits l (headWith h x) (bytesOf (headWith h x) (allRows x .row)) ≡ true → Readable l (listsSheet h x)
   unfolding listsSheet layoutOk
-  lists-readable w =
+  lists-readable l w =
       readable-is (headWith h x) (allRows x .row) lists-fit l .1 (record {
         layout = s .layout;
         within = w;
@@ -160,12 +160,12 @@ pub within-limits : (l : Limits) (h : SheetHead) (n : ℕ) → h .platforms ≤ 
 unfolding withinLimits
 within-limits l h n a b c d = rw (le-leb _ _ a, le-leb _ _ b, le-leb _ _ c, le-leb _ _ d)
 
-pub lists-accepted : (l : Limits) (h : SheetHead) (x : RowLists) → ListsSound l h x → pageSizeOf (revisionOf h) ≡ 4096
+pub lists-accepted : (l : Limits) (h : SheetHead) (x : RowLists) → ListsSound h x → pageSizeOf (revisionOf h) ≡ 4096
     → withinLimits l (headWith h x) (bytesOf (headWith h x) (allRows x .row)) ≡ true → NotRefused (listsHeaders h x)
     → isRefusal (verdictRefusal l (listsSheet h x)) ≡ false
 unfolding verdictRefusal revisionOf
 lists-accepted l h x s p w n =
     else-none (sheetRefusal l (listsSheet h x)) _ .1 (
-      sheet-says l (listsSheet h x) .1 (lists-readable l h x s w, rw (lists-head l h x s) p),
-      rw (same-refusal (lists-headers l h x s)) n,
+      sheet-says l (listsSheet h x) .1 (lists-readable h x s l w, rw (lists-head h x s) p),
+      rw (same-refusal (lists-headers h x s)) n,
     )

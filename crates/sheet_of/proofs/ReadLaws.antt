@@ -11,11 +11,12 @@ use Rattle.answers.specs.Verdict.{verdictRefusal}
 use Rattle.sheet_of.specs.{SheetOf.{Row, sheetOf, Fits, decoded, rowHeaders}, Offered.{bytesOf, headFault, offeredFault, offeredRefusal, rowsVerdict}}
 use Rattle.sheet_of.proofs.SheetOfLaws.{sheet-length, head-is, kind-is, length-is, offset-is, body-is}
 
--- what comes after is none
+-- a first fault that is none has no row and no detail
 firstFault-none : (first n : ℕ) (faults : ℕ → Fault) → isRefusal (firstFault first n faults) ≡ false → firstFault first n faults ≡ noRefusal
 unfolding firstFault isRefusal
 firstFault-none first n faults e = fault-end first n faults (sym (faults-any first n faults) ∙ e)
 
+-- what comes after it is none
 else-nothing : (first n : ℕ) (faults : ℕ → Fault) → orElse (firstFault first n faults) (inRow 0 noFault) ≡ firstFault first n faults
 else-nothing first n faults = go (isRefusal (firstFault first n faults)) refl
   where

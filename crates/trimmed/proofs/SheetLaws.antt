@@ -33,7 +33,7 @@ module _ (l : Limits) (fit : LimitsFit l) (remain : Remain) (s : List ℕ) (T : 
   rows : RowLists
   rows = remainingRows remain (sheetRows s)
 
-  sound : ListsSound l (headOf s) rows
+  sound : ListsSound (headOf s) rows
   unfolding sheetRows rows
   sound =
       let st = started in
@@ -55,11 +55,11 @@ module _ (l : Limits) (fit : LimitsFit l) (remain : Remain) (s : List ℕ) (T : 
 
   pub trimmed-head : headOf (trimmedSheet remain s) ≡ headWith (headOf s) (remainingRows remain (sheetRows s))
   unfolding trimmedSheet rows
-  trimmed-head = lists-head l (headOf s) rows sound
+  trimmed-head = lists-head (headOf s) rows sound
 
   pub trimmed-headers : SameHeaders (sheetHeaders (trimmedSheet remain s)) (trimmedHeaders remain (sheetHeaders s))
   unfolding trimmedSheet sheetHeaders listsHeaders sheetRows rows
-  trimmed-headers = lists-headers l (headOf s) rows sound
+  trimmed-headers = lists-headers (headOf s) rows sound
 
   pub within : Within (trimmedHeaders remain (sheetHeaders s)) (sheetHeaders s)
   within = trimmed-within l remain s readable (T .contexts) (T .areas)
