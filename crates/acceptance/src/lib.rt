@@ -1,5 +1,7 @@
 // One pass over the rows of a sheet, from its bytes, that only accepts: list after list, as far as each row is in order. Where it ends early, the passes over
 // the headers say what is wrong, if anything is.
+#![tactic(auto)]
+
 ghost use Rattle.std.specs.Prelude.{◌≡◌, true, false, List, [], ◌∷◌, ℕ, ◌+◌, ◌≤◌, ◌<◌, length};
 ghost use Rattle.igvm_defs.specs.Refusals.{is_fault};
 ghost use Rattle.igvm_defs.specs.Revision.{is_x64};
@@ -14,7 +16,7 @@ ghost use Rattle.acceptance.specs.Accepted.{RowsAccepted, ListsAccepted};
 use sheet::Cursor;
 
 // The first row that was not passed, how many regions the rows passed have, and whether all rows are in order.
-#[derive(Drop)]
+#[derive(Clone, Copy)]
 pub struct Reached {
     pub at: Cursor,
     pub count: usize,

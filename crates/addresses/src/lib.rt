@@ -1,4 +1,6 @@
 // Alignments and ranges of guest physical addresses. No test overflows.
+#![tactic(auto)]
+
 ghost use Rattle.std.specs.Prelude.{◌≡◌, cond, ◌+◌, leb, ltb};
 ghost use Rattle.addresses.specs.Addresses.{is_multiple, on_page, contains, meets, ends_beyond};
 ghost use Rattle.addresses.specs.BaseChecks.{base_check, check_number};
@@ -77,7 +79,7 @@ pub fn ends_beyond(base: u64, size: u64) -> bool
 
 // ---- the check of a proposed base
 
-#[derive(Drop)]
+#[derive(Clone, Copy)]
 pub enum BaseCheck {
     Valid,
     Unaligned,

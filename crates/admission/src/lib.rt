@@ -1,4 +1,6 @@
 // From the bytes of an input to the line that `admit` writes.
+#![tactic(auto)]
+
 ghost use Rattle.std.specs.Prelude.{◌≡◌, ◌≤◌};
 ghost use Rattle.sheet.specs.Head.{limits};
 ghost use Rattle.line.specs.Text.{text_of};

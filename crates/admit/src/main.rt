@@ -1,4 +1,6 @@
 // Reads an image's sheet from standard input, and writes whether it is admitted.
+#![tactic(auto)]
+
 ghost use Rattle.io.specs.Counts.{IsPrefixLen};
 
 use libc::{STDIN_FILENO, STDOUT_FILENO};

@@ -1,4 +1,6 @@
 // For each argument, the name of a file, a line: the name, and what `admit` writes of the file.
+#![tactic(auto)]
+
 use libc::STDOUT_FILENO;
 
 fn write(text: &[u8]) {

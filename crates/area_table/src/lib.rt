@@ -1,5 +1,7 @@
 // What is known of each area, by its index (specs/AreaTable.antt): small indexes have a place of their own, others are found in a tree by their bits. The
 // arrays of the tree are lent as slices, so that a table has the size that a sheet asks for.
+#![tactic(auto)]
+
 ghost use Rattle.std.specs.Prelude.{cond, ◌&&◌, ◌≢◌, ◌≡◌, ℕ, ◌<◌, ◌≤◌, eqb, length, get_or};
 ghost use Rattle.area_table.specs.AreaTable.{root, place_of, state_at, state_in, Tree, HoldsAreas};
 

@@ -1,6 +1,8 @@
 // What is known of each area, by its index, in one lent array (specs/AreaTree.antt): 1,024 roots, then four entries for each of up to 1,024 nodes. Whoever lends
 // the array may have filled it with anything: every function is safe on any content, and takes a number that is no node's for an empty place. On an array
 // that only these functions have written, what is told of an area is exactly what was said of it.
+#![tactic(auto)]
+
 ghost use Rattle.std.specs.Prelude.{cond, ◌≡◌, ℕ, ◌+◌, ◌<◌, ◌≤◌, eqb};
 ghost use Rattle.area_tree.specs.AreaTree.{root, node_at, place_of, HoldsAreas};
 

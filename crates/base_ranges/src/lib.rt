@@ -1,10 +1,12 @@
 // A base that is known only as a range: whether the multiples of the alignment in it are valid always, never or sometimes. No sum wraps, and nothing is rounded up.
+#![tactic(auto)]
+
 ghost use Rattle.std.specs.Prelude.{◌≡◌, ltb};
 ghost use Rattle.addresses.specs.BaseChecks.{base_check, is_valid};
 ghost use Rattle.base_ranges.specs.BaseRanges.{any_multiple, has_multiple, base_range, range_number};
 ghost use Rattle.base_ranges.specs.Nearest.{multiple_to, higher, lower};
 
-#[derive(Drop)]
+#[derive(Clone, Copy)]
 pub enum BaseRange {
     Always,
     Never,

@@ -1,4 +1,6 @@
 // A region against regions that are kept in arrays: the first n of each array tell mask, address, size and whether it is a page table.
+#![tactic(auto)]
+
 ghost use Rattle.std.specs.Prelude.{◌≡◌, ◌&&◌, ◌≤◌, length};
 ghost use Rattle.masks.specs.Masks.{shares};
 ghost use Rattle.addresses.specs.Addresses.{meets};

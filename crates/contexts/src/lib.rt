@@ -1,4 +1,6 @@
 // 34 and 38 over regions kept in arrays: each has VP index 0 and shares a bit with the mask of its VTL's contexts; and that mask has each of its bits.
+#![tactic(auto)]
+
 ghost use Rattle.std.specs.Prelude.{◌≡◌, true, false, not, cond, ◌&&◌, ◌||◌, List, ℕ, ◌+◌, ◌-◌, ◌≤◌, ◌<◌, eqb, length, get_or};
 ghost use Rattle.std.proofs.Math.Option.{none, some};
 ghost use Rattle.masks.specs.Masks.{shares};

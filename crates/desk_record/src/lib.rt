@@ -1,4 +1,6 @@
 // The desk's record: numbers and arrays of numbers, zeroes when it is empty, laid out as C lays it out. A record may hold any bytes, so there is no bool in it.
+#![tactic(auto)]
+
 ghost use Rattle.std.specs.Prelude.{◌≡◌, cond, ◌+◌, ◌≤◌, ◌<◌, eqb, leb, length};
 ghost use Rattle.igvm_defs.specs.Kinds.{kind_of};
 ghost use Rattle.sheet.specs.Head.{limits, row_count, within_limits};
@@ -13,7 +15,7 @@ use sheet::SheetHead;
 
 // The numbers of the record. phase: 0 never opened, 1 open, 2 closed, 3 stopped.
 #[repr(C)]
-#[derive(Drop)]
+#[derive(Clone, Copy)]
 pub struct Front {
     pub phase: u32,
     // parameter areas taken
@@ -28,7 +30,7 @@ pub struct Front {
 }
 
 #[repr(C)]
-#[derive(Drop)]
+#[derive(Clone, Copy)]
 pub struct Desk {
     pub front: Front,
     // of the platform rows taken

@@ -1,5 +1,7 @@
 // The directive rows of a sheet, from its bytes, as far as they are in order: one pass. A row that is not in order, or of which this pass can't tell, is
 // where it ends; what is wrong with such a row is for the pass over directive headers to say.
+#![tactic(auto)]
+
 ghost use Rattle.std.specs.Prelude.{◌≡◌, [], ◌∷◌, ◌≤◌, length};
 ghost use Rattle.igvm_defs.specs.Revision.{is_x64};
 ghost use Rattle.sheet.specs.Head.{head_of, first_directive, row_count, bodies_at};

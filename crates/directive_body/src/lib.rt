@@ -1,4 +1,6 @@
 // A directive row's body by itself, for the kinds that have a test of their own: its length, its codes, and what the rules ask of the header alone.
+#![tactic(auto)]
+
 ghost use Rattle.std.specs.Prelude.{◌≡◌, true, ◌≤◌, length};
 ghost use Rattle.igvm_defs.specs.declared.Arch.{Arch};
 ghost use Rattle.directive_body.specs.Body.{BodyInOrder};

@@ -1,4 +1,6 @@
 // Directive headers: refusals 21, 22, 24 and 30 to 33 header by header, and the contexts' masks.
+#![tactic(auto)]
+
 ghost use Rattle.std.specs.Prelude.{◌≡◌, ◌&&◌, ◌||◌, eqb, get_or, length, ℕ, ◌+◌, ◌≤◌};
 ghost use Rattle.rows.specs.Rows.{Rows, before};
 ghost use Rattle.initialization_header.specs.declared.IgvmInitializationHeader.{IgvmInitializationHeader};
@@ -124,7 +126,7 @@ pub fn is_parameter(kind: u32) -> bool
     (34 <= kind) & (kind <= 43)
 }
 
-#[derive(Drop)]
+#[derive(Clone, Copy)]
 pub struct AreaName {
     pub how: u8,
     pub area: u32,
@@ -151,7 +153,7 @@ pub fn naming(kind: u32, body: &[u8]) -> AreaName
 
 // ---- one row more
 
-#[derive(Drop)]
+#[derive(Clone, Copy)]
 pub struct DirectiveStep {
     pub contexts: [u32; 3],
     pub fault: Fault,

@@ -1,17 +1,19 @@
 // Directive headers.
+#![tactic(auto)]
+
 ghost use Rattle.std.specs.Prelude.{◌≡◌, ◌≤◌, length};
 ghost use Rattle.igvm_defs.specs.Kinds.{kind_of, directive_list};
 ghost use Rattle.directive_header.specs.Directives.{directive_of, page_data_of, parameter_area_of, parameter_of, required_memory_of, snp_vp_context_of, x64_native_vp_context_of, x64_vbs_vp_context_of, aarch64_vbs_vp_context_of, aarch64_cca_vp_context_of, parameter_insert_of, error_range_of, snp_id_block_of, vbs_measurement_of};
 
 use igvm_defs::Vtl;
 
-#[derive(Drop)]
+#[derive(Clone, Copy)]
 pub struct IGVM_VHS_PARAMETER {
     pub parameter_area_index: u32,
     pub byte_offset: u32,
 }
 
-#[derive(Drop)]
+#[derive(Clone, Copy)]
 pub struct IGVM_VHS_PARAMETER_INSERT {
     pub gpa: u64,
     pub compatibility_mask: u32,
@@ -19,7 +21,7 @@ pub struct IGVM_VHS_PARAMETER_INSERT {
 }
 
 // Data and opaque bytes are no part of a header; how many there are is: data, initial_data, vmsa, context, registers, opaque.
-#[derive(Drop)]
+#[derive(Clone, Copy)]
 pub enum IgvmDirectiveHeader {
     PageData {
         gpa: u64,

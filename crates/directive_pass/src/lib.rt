@@ -1,4 +1,6 @@
 // The pass over the directive rows of a readable sheet, from the first row on that is not known to be in order: refusals 21, 22, 24 and 30 to 34.
+#![tactic(auto)]
+
 ghost use Rattle.std.specs.Prelude.{◌≡◌, false, ℕ, ◌+◌, ◌-◌, ◌<◌, ◌≤◌};
 ghost use Rattle.rows.specs.Below.{any_below};
 ghost use Rattle.igvm_defs.specs.Kinds.{kind_of, directive_list};
@@ -28,7 +30,7 @@ use sheet::{Cursor, SheetHead};
 // ---- 32: the rows before a row are read again
 
 // What some directive rows tell of an area.
-#[derive(Drop)]
+#[derive(Clone, Copy)]
 struct KnownArea {
     allocated: bool,
     inserted: bool,
@@ -129,7 +131,7 @@ fn inside_table<'a>(
 
 // One row: its fault, the contexts' masks with its context, and the row after it. The rows before it tell whether its area is bad. Verdict and report share it,
 // so that what it calls has one caller.
-#[derive(Drop)]
+#[derive(Clone, Copy)]
 pub struct RowPass {
     pub fault: Fault,
     pub contexts: [u32; 3],
@@ -167,7 +169,7 @@ pub fn validate_row<'a>(
 }
 
 // The refusal, and the contexts' masks, which hold the contexts of all rows where there is no refusal.
-#[derive(Drop)]
+#[derive(Clone, Copy)]
 pub struct DirectivesPass {
     pub refusal: Refusal,
     pub contexts: [u32; 3],

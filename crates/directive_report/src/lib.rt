@@ -1,4 +1,6 @@
 // The report on the directive rows of a readable sheet: the word of each row, judged after the rows kept before it, and whether a kept region has no context (34).
+#![tactic(auto)]
+
 ghost use Rattle.std.specs.Prelude.{◌≡◌, cond, ◌≢◌, ℕ, ◌+◌, ◌*◌, ◌<◌, ◌≤◌, eqb, length};
 ghost use Rattle.lent.specs.Lent.{words_put};
 ghost use Rattle.igvm_defs.specs.declared.Arch.{Arch};
@@ -134,7 +136,7 @@ fn keep_area(
 // ---- one row
 
 // The masks of the contexts that are kept.
-#[derive(Drop)]
+#[derive(Clone, Copy)]
 struct KeptContexts {
     masks: [u32; 3],
 }
@@ -150,7 +152,7 @@ fn kept_contexts(faulty: bool, old: [u32; 3], new: [u32; 3]) -> KeptContexts
 }
 
 // What the report says of a row, the masks of the contexts kept with it, and the row after it.
-#[derive(Drop)]
+#[derive(Clone, Copy)]
 struct RowReport {
     fault: Fault,
     contexts: [u32; 3],
@@ -212,7 +214,7 @@ fn report_row<'a>(
 // ---- the rows
 
 // The masks of the contexts that are kept, and how many rows are faulty.
-#[derive(Drop)]
+#[derive(Clone, Copy)]
 struct RowsReport {
     contexts: [u32; 3],
     faulty: usize,
@@ -344,7 +346,7 @@ fn report_with_table(
 }
 
 // Whether a kept region has no context, and how many rows are faulty.
-#[derive(Drop)]
+#[derive(Clone, Copy)]
 pub struct DirectivesReport {
     pub no_context: bool,
     pub faulty: usize,

@@ -1,5 +1,7 @@
 // One directive row, from its kind and body: its length, its codes and its tests, one arm for each kind, and what it tells of contexts and areas. Only a row
 // that is in order is accepted; what is wrong with another is for the pass over directive headers to say.
+#![tactic(auto)]
+
 ghost use Rattle.std.specs.Prelude.{◌≡◌, true, false, ℕ, ◌≤◌, length};
 ghost use Rattle.rows.specs.Rows.{Rows};
 ghost use Rattle.igvm_defs.specs.declared.Arch.{Arch};

@@ -1,4 +1,6 @@
 // What every other crate speaks of: refusals, the tables of kinds and of platform types, architectures, revisions and VTLs.
+#![tactic(auto)]
+
 ghost use Rattle.std.specs.Prelude.{◌≡◌, ℕ, ◌<◌, get_or};
 ghost use Rattle.igvm_defs.specs.Refusals.{fault, refuse, Then, or_fault, is_fault, is_refusal, in_row};
 ghost use Rattle.igvm_defs.specs.Kinds.{kind_of, no_kind, length_ok};
@@ -13,7 +15,7 @@ pub const PAGE_SIZE_4K: u64 = 4096;
 
 // A refusal's number, the row that it names (from 1; 0 for the sheet as a whole) and its detail. All 0 where nothing is refused.
 #[repr(C)]
-#[derive(Drop)]
+#[derive(Clone, Copy)]
 pub struct Refusal {
     pub number: u64,
     pub row: u64,
@@ -21,7 +23,7 @@ pub struct Refusal {
 }
 
 // What is wrong with one row: the refusal's number and detail. Both 0 where nothing is.
-#[derive(Drop)]
+#[derive(Clone, Copy)]
 pub struct Fault {
     pub number: u64,
     pub detail: u64,
@@ -110,7 +112,7 @@ impl Refusal {
 
 // What the table says of a kind: its list (1 platform, 2 initialization, 3 directive; 0 for a kind of no list), the least length
 // of its body, and whether that length is exact.
-#[derive(Drop)]
+#[derive(Clone, Copy)]
 pub struct Kind {
     pub list: u8,
     pub least: u8,
@@ -299,7 +301,7 @@ impl Kind {
 
 // What the table says of a platform type: its version, whether its shared GPA boundary must be 0, and the architectures that it may
 // stand with.
-#[derive(Drop)]
+#[derive(Clone, Copy)]
 pub struct PlatformType {
     pub version: u16,
     pub unshared: bool,
@@ -381,7 +383,7 @@ pub fn platform_type_of(k: u8) -> PlatformType
 // ---- revisions
 
 // Architecture for an IGVM file.
-#[derive(Drop)]
+#[derive(Clone, Copy)]
 pub enum Arch {
     X64,
     AArch64,
@@ -408,7 +410,7 @@ impl Arch {
 }
 
 // Format revision for an IGVM file.
-#[derive(Drop)]
+#[derive(Clone, Copy)]
 pub enum IgvmRevision {
     V1,
     V2 { arch: Arch, page_size: u32 },
@@ -437,7 +439,7 @@ impl IgvmRevision {
 // ---- VTLs
 
 // Virtual trust level.
-#[derive(Drop)]
+#[derive(Clone, Copy)]
 pub enum Vtl {
     Vtl0,
     Vtl1,

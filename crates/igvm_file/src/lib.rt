@@ -1,4 +1,6 @@
 // The verdict: IgvmFile::new, from any byte string. Who only wants the verdict keeps nothing: the arrays are locals, of 4 or of 64 regions.
+#![tactic(auto)]
+
 ghost use Rattle.std.specs.Prelude.{◌≡◌, false, ◌≤◌};
 ghost use Rattle.igvm_defs.specs.Refusals.{is_fault};
 ghost use Rattle.sheet.specs.Head.{limits, head_of, start_fault};
@@ -68,7 +70,7 @@ fn judge_many(s: &[u8], head: SheetHead) -> Verdict
 }
 
 // A file that was offered: accepted, or the first refusal of 1 to 34.
-#[derive(Drop)]
+#[derive(Clone, Copy)]
 pub struct IgvmFile {
     pub verdict: Verdict,
 }

@@ -1,5 +1,7 @@
 // The initialization rows of a byte string, in one pass that only accepts: it goes past a row that has no fault, of reading or by the rules, and stops
 // at the first row that it does not know to be in order. What is wrong with that row, if anything, the passes that name a fault tell.
+#![tactic(auto)]
+
 ghost use Rattle.std.specs.Prelude.{◌≡◌, ◌+◌, ◌≤◌, ◌<◌, length};
 ghost use Rattle.igvm_defs.specs.Revision.{is_x64};
 ghost use Rattle.sheet.specs.Head.{platform_rows, initialization_rows, head_of, bodies_at};
@@ -13,7 +15,7 @@ use by_start::Order;
 use sheet::Cursor;
 
 // The first row not accepted, or the place behind the last initialization row, and how many regions the rows before it have.
-#[derive(Drop)]
+#[derive(Clone, Copy)]
 pub struct InitializationsReached {
     pub at: Cursor,
     pub count: usize,

@@ -1,4 +1,6 @@
 // Initialization headers: refusals 16 to 29, header by header, and the record of regions.
+#![tactic(auto)]
+
 ghost use Rattle.std.specs.Prelude.{◌≡◌, true, not, cond, ℕ, ◌≤◌};
 ghost use Rattle.std.proofs.Math.Option.{none, some};
 ghost use Rattle.sheet.specs.Head.{platform_rows, initialization_rows};
@@ -86,7 +88,7 @@ pub fn validate(h: IgvmInitializationHeader) -> Fault
 // ---- regions
 
 // The regions read so far: the first `count` of each array.
-#[derive(Drop)]
+#[derive(Clone, Copy)]
 pub struct RelocRegions {
     pub mask: [u32; SheetHead::INITIALIZATION_ROWS],
     pub gpa: [u64; SheetHead::INITIALIZATION_ROWS],
@@ -98,7 +100,7 @@ pub struct RelocRegions {
 }
 
 // A region of either kind, where a header has one.
-#[derive(Drop)]
+#[derive(Clone, Copy)]
 pub struct HeaderRegion {
     pub found: bool,
     pub region: Region,
@@ -243,7 +245,7 @@ pub fn check<'a>(
     }
 }
 
-#[derive(Drop)]
+#[derive(Clone, Copy)]
 pub struct InitializationStep {
     pub fault: Fault,
     pub found: bool,

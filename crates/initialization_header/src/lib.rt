@@ -1,4 +1,6 @@
 // Initialization headers.
+#![tactic(auto)]
+
 ghost use Rattle.std.specs.Prelude.{◌≡◌, ◌≤◌, length};
 ghost use Rattle.igvm_defs.specs.Kinds.{kind_of, initialization_list};
 ghost use Rattle.initialization_header.specs.Initializations.{initialization_of, guest_policy_of, cca_policy_of, relocatable_region_of, page_table_relocation_region_of};
@@ -6,7 +8,7 @@ ghost use Rattle.initialization_header.specs.Initializations.{initialization_of,
 use igvm_defs::Vtl;
 
 // The two opaque bytes of a CcaPolicy, hash_algorithm and lfa_policy, are no part of a header.
-#[derive(Drop)]
+#[derive(Clone, Copy)]
 pub enum IgvmInitializationHeader {
     GuestPolicy {
         policy: u64,

@@ -1,4 +1,6 @@
 // The pass over the initialization rows of a readable sheet: refusals 16 to 29, or the word of each row, and the record that the later pass needs.
+#![tactic(auto)]
+
 ghost use Rattle.std.specs.Prelude.{◌≡◌, true, not, cond, ◌&&◌, ◌+◌, ◌*◌, ◌≤◌, length};
 ghost use Rattle.igvm_defs.specs.Refusals.{is_fault};
 ghost use Rattle.lent.specs.Lent.{word_put, words_put};
@@ -17,7 +19,7 @@ use platform_check::Platforms;
 use sheet::SheetHead;
 
 // The refusal that ends the pass, the regions that are kept, and how many rows are faulty.
-#[derive(Drop)]
+#[derive(Clone, Copy)]
 pub struct InitializationsPass {
     pub refusal: Refusal,
     pub regions: RelocRegions,

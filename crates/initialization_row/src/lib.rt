@@ -1,4 +1,6 @@
 // One initialization row by its kind and its body, whatever initialization rows stand before it: whether it is in order, and its region.
+#![tactic(auto)]
+
 ghost use Rattle.std.specs.Prelude.{◌≡◌, true, false, not, ◌&&◌, eqb};
 ghost use Rattle.rows.specs.Rows.{Rows};
 ghost use Rattle.igvm_defs.specs.declared.Arch.{Arch};
@@ -14,7 +16,7 @@ ghost use Rattle.initialization_row.specs.Row.{InOrder};
 use rules::Region;
 
 // Whether a row is in order but for the rows before it, and its region where it has one.
-#[derive(Drop)]
+#[derive(Clone, Copy)]
 pub struct RowFound {
     pub ok: bool,
     pub found: bool,

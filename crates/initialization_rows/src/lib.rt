@@ -1,5 +1,7 @@
 // The initialization rows of an upload, kept as they came, and what the rules and the queries ask of them. The arrays may hold anything: a row is read as a header
 // each time.
+#![tactic(auto)]
+
 ghost use Rattle.std.specs.Prelude.{◌≡◌, true, cond, ℕ, ◌+◌, ◌-◌, ◌*◌, ◌≤◌, ◌<◌, length};
 ghost use Rattle.le.specs.Le.{byte_at};
 ghost use Rattle.rows.specs.Rows.{Rows, any, more};

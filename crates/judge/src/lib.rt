@@ -1,4 +1,6 @@
 // The verdict on a sheet whose head and table are in order, with what was found of an accepted file kept in lent arrays: its regions, each with its row, and the masks of its contexts.
+#![tactic(auto)]
+
 ghost use Rattle.std.specs.Prelude.{◌≡◌, false, [], ◌∷◌, ◌≤◌, ◌<◌, length};
 ghost use Rattle.igvm_defs.specs.Refusals.{is_fault, is_refusal};
 ghost use Rattle.sheet.specs.Head.{limits, head_of, start_fault};

@@ -1,4 +1,6 @@
 // The regions of a readable sheet, each with its row, kept in slices that are lent.
+#![tactic(auto)]
+
 ghost use Rattle.std.specs.Prelude.{◌≡◌, ◌≤◌, ◌<◌, length};
 ghost use Rattle.sheet.specs.Head.{limits, head_of};
 ghost use Rattle.sheet.specs.Read.{Readable};

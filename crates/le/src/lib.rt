@@ -1,4 +1,6 @@
 // Little-endian numbers of two, four and eight bytes in a slice.
+#![tactic(auto)]
+
 ghost use Rattle.std.specs.Prelude.{◌≡◌, ◌+◌, ◌*◌, ◌≤◌, length};
 ghost use Rattle.le.specs.Le.{le_at};
 

@@ -1,4 +1,6 @@
 // Little-endian words, and bytes, put into bytes that a caller lends.
+#![tactic(auto)]
+
 ghost use Rattle.std.specs.Prelude.{◌≡◌, ◌+◌, ◌*◌, ◌≤◌, length};
 ghost use Rattle.le.specs.Le.{byte_at};
 ghost use Rattle.lent.specs.Lent.{bytes_put, word_put, words_put, row_put, numbers_put};

@@ -1,4 +1,6 @@
 // The line that `admit` writes of a verdict.
+#![tactic(auto)]
+
 ghost use Rattle.std.specs.Prelude.{◌≡◌, [], ◌∷◌, ◌++◌, ◌+◌, ◌≤◌, length};
 ghost use Rattle.line.specs.Line.{digits_in, decimal, newline, accepted_line, refused_line, line_of};
 ghost use Rattle.line.specs.Text.{text_of, Extends};
@@ -6,7 +8,7 @@ ghost use Rattle.line.specs.Text.{text_of, Extends};
 use answers::Verdict;
 
 // The line so far: the first `len` bytes.
-#[derive(Drop)]
+#[derive(Clone, Copy)]
 pub struct Line {
     pub bytes: [u8; 96],
     pub len: usize,

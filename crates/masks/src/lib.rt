@@ -1,4 +1,6 @@
 // Compatibility masks: shared bits, one-bit masks, and the set bits of a mask.
+#![tactic(auto)]
+
 ghost use Rattle.std.specs.Prelude.{◌≡◌, cond, not, [], ◌∷◌, ◌++◌, ◌+◌, ◌-◌, ◌≤◌, ◌<◌, eqb, take};
 ghost use Rattle.std.proofs.Math.Option.{none, some};
 ghost use Rattle.std.specs.Int.Bits.{bit_and};
@@ -59,7 +61,7 @@ pub fn lowest_without(m: u32, held: u32) -> u32
 }
 
 // Up to 32 masks of one bit each: the first `count` of the array.
-#[derive(Drop)]
+#[derive(Clone, Copy)]
 pub struct Masks {
     pub masks: [u32; 32],
     pub count: usize,

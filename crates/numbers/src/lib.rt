@@ -1,4 +1,6 @@
 // The numbers of an answer, in the order in which a call across the C linkage names them.
+#![tactic(auto)]
+
 ghost use Rattle.std.specs.Prelude.{◌≡◌, cond};
 ghost use Rattle.lent.specs.Lent.{numbers_put};
 ghost use Rattle.answers.specs.Numbers.{number_of, verdict_numbers, report_numbers, relocation_numbers, answer_numbers, check_numbers};

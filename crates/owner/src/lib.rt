@@ -1,4 +1,6 @@
 // Which region of a mask owns an address, and the index of a mask's regions, from any byte string. The regions are those that the verdict has kept, in order of their starts.
+#![tactic(auto)]
+
 ghost use Rattle.std.specs.Prelude.{◌≡◌, Bool, true, false, cond, List, ◌≢◌, ℕ, ◌+◌, ◌*◌, ◌≤◌, ◌<◌, length, get_or};
 ghost use Rattle.rows.specs.Below.{count_below};
 ghost use Rattle.masks.specs.Masks.{matches};

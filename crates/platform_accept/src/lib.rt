@@ -1,5 +1,7 @@
 // The platform rows of a sheet, from its bytes, as far as they are in order. A row that passes the tests here has no fault; one that does not pass is
 // left to the passes over the headers, which name its fault or find none.
+#![tactic(auto)]
+
 ghost use Rattle.std.specs.Prelude.{◌≡◌, true, false, cond, ◌^◌, ◌≤◌, ◌<◌, eqb, length};
 ghost use Rattle.std.specs.Int.Bits.{bit_or};
 ghost use Rattle.igvm_defs.specs.declared.Arch.{Arch};
@@ -15,7 +17,7 @@ ghost use Rattle.platform_accept.specs.Accepted.{PlatformsAccepted};
 use sheet::Cursor;
 
 // The first row that was not passed, and bits of which each is the mask of a platform before it, the last such one being CCA.
-#[derive(Drop)]
+#[derive(Clone, Copy)]
 pub struct PlatformsReached {
     pub at: Cursor,
     pub cca: u32,

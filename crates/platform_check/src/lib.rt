@@ -1,4 +1,6 @@
 // Platform headers: refusals 8 to 14, header by header and as a pass over the platform rows.
+#![tactic(auto)]
+
 ghost use Rattle.std.specs.Prelude.{◌≡◌, ℕ, ◌+◌, ◌<◌, ◌≤◌, cond, eqb, get_or};
 ghost use Rattle.rows.specs.Below.{any_below};
 ghost use Rattle.rows.specs.Rows.{Rows, before};
@@ -52,14 +54,14 @@ fn type_after(found: u8, same: bool, kind: u8) -> u8
 }
 
 // The masks and the types of the platform rows read so far.
-#[derive(Drop)]
+#[derive(Clone, Copy)]
 pub struct Platforms {
     pub mask: [u32; SheetHead::PLATFORM_ROWS],
     pub types: [u8; SheetHead::PLATFORM_ROWS],
     pub count: usize,
 }
 
-#[derive(Drop)]
+#[derive(Clone, Copy)]
 pub struct PlatformStep {
     pub platforms: Platforms,
     pub fault: Fault,

@@ -1,11 +1,13 @@
 // Platform headers.
+#![tactic(auto)]
+
 ghost use Rattle.std.specs.Prelude.{◌≡◌, ◌≤◌, length};
 ghost use Rattle.igvm_defs.specs.Kinds.{kind_of, platform_list};
 ghost use Rattle.platform_header.specs.Platforms.{platform_of, supported_platform_of};
 
 // The Rust's enum has one variant, SupportedPlatform, which holds these fields. An enum of one variant can't be taken apart in covered
 // code, so a struct stands for it.
-#[derive(Drop)]
+#[derive(Clone, Copy)]
 pub struct IgvmPlatformHeader {
     pub compatibility_mask: u32,
     pub highest_vtl: u8,

@@ -1,4 +1,6 @@
 // The pass over the platform rows of a readable sheet: refusals 8 to 15, or the word of each row, and the record that the later pass needs.
+#![tactic(auto)]
+
 ghost use Rattle.std.specs.Prelude.{◌≡◌, true, cond, ◌+◌, ◌*◌, ◌≤◌, length};
 ghost use Rattle.lent.specs.Lent.{word_put, words_put};
 ghost use Rattle.sheet.specs.Head.{limits, head_of, row_count};
@@ -13,7 +15,7 @@ use platform_check::Platforms;
 use sheet::{Cursor, SheetHead};
 
 // The refusal that ends the pass, the platforms that are kept, and how many rows are faulty.
-#[derive(Drop)]
+#[derive(Clone, Copy)]
 pub struct PlatformsPass {
     pub refusal: Refusal,
     pub platforms: Platforms,

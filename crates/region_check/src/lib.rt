@@ -1,4 +1,6 @@
 // The checks on a region by its eight words alone, as the region list puts them. Fewer than 64 bytes are no region; bytes behind them don't count.
+#![tactic(auto)]
+
 ghost use Rattle.std.specs.Prelude.{◌≡◌};
 ghost use Rattle.answers.specs.Owner.{region_in};
 ghost use Rattle.answers.specs.Region.{region_base_check_of, region_contains_of};

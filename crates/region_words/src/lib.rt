@@ -1,4 +1,6 @@
 // The words of a mask's regions in lent bytes, in header order, and its page-table region, in one walk over the initialization rows.
+#![tactic(auto)]
+
 ghost use Rattle.std.specs.Prelude.{◌≡◌, true, cond, ◌&&◌, ◌+◌, ◌*◌, ◌≤◌, eqb, length};
 ghost use Rattle.std.proofs.Math.Option.{none};
 ghost use Rattle.le.specs.Le.{byte_at};
@@ -100,7 +102,7 @@ fn found_table(s: &[u8], t: usize, end: usize) -> FoundTable
 }
 
 // How many regions were put, and the page-table region.
-#[derive(Drop)]
+#[derive(Clone, Copy)]
 pub struct PutRegions {
     pub table: FoundTable,
     pub count: usize,

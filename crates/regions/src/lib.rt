@@ -1,4 +1,6 @@
 // The regions of a mask: how many the arrays of an accepted file have, and each by its number among the initialization rows.
+#![tactic(auto)]
+
 ghost use Rattle.std.specs.Prelude.{◌≡◌, true, false, not, cond, ◌&&◌, ◌+◌, ◌≤◌, ◌<◌, length, get_or};
 ghost use Rattle.rows.specs.Below.{count_below};
 ghost use Rattle.masks.specs.Masks.{matches};
@@ -26,13 +28,13 @@ pub fn is_relocatable(given: u32, h: IgvmInitializationHeader) -> bool
     }
 }
 
-#[derive(Drop)]
+#[derive(Clone, Copy)]
 pub struct FoundRegion {
     pub found: bool,
     pub region: IgvmRelocatableRegion,
 }
 
-#[derive(Drop)]
+#[derive(Clone, Copy)]
 pub struct FoundTable {
     pub found: bool,
     pub table: PageTableRegion,

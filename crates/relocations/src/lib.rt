@@ -1,4 +1,6 @@
 // The relocation query and the checks on one region, from any byte string.
+#![tactic(auto)]
+
 ghost use Rattle.std.specs.Prelude.{◌≡◌, false, ◌≤◌, ◌<◌, length};
 ghost use Rattle.std.proofs.Math.Option.{none};
 ghost use Rattle.igvm_defs.specs.Refusals.{no_refusal, is_fault, is_refusal};
@@ -14,7 +16,7 @@ use regions::FoundTable;
 use sheet::SheetHead;
 
 // The verdict's refusal, or 35; and where neither applies, a count no less than the mask's regions, and just theirs where it is more than the room.
-#[derive(Drop)]
+#[derive(Clone, Copy)]
 struct Counted {
     refusal: Refusal,
     count: usize,

@@ -1,5 +1,7 @@
 // Makes the calls that a file holds, number by number as a host does, and writes a line for each: who gave the answer that it is held to, the call, its
 // numbers, the lent bytes afterwards, and whether the call's sibling gives all of that at once.
+#![tactic(auto)]
+
 ghost use Rattle.std.specs.Prelude.{◌*◌, ◌<◌, ◌≤◌, length};
 
 use libc::STDOUT_FILENO;

@@ -1,4 +1,6 @@
 // The report: all faulty rows of a sheet in one call. A word for each row goes into lent bytes, and 15 and 34 are told beside it.
+#![tactic(auto)]
+
 ghost use Rattle.std.specs.Prelude.{◌≡◌, true, false, ◌*◌, ◌≤◌, length};
 ghost use Rattle.igvm_defs.specs.Refusals.{is_refusal};
 ghost use Rattle.sheet.specs.Head.{limits, head_of, row_count};

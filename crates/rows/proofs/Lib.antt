@@ -5,4 +5,3 @@ pub mod PairedLaws
 pub mod JoinedLaws
 pub mod RemainingLaws
 pub mod Kit
-pub mod Walks

@@ -1,8 +1,9 @@
 // The rules of admission: when a file's headers are refused, and what a query of an accepted file answers. These are definitions alone, in
 // specs/, and what a reader must believe; the crates above prove their code equal to them. Here are only the structs that they speak of.
+#![tactic(auto)]
 
 // A region of either kind: what it covers, and for whom.
-#[derive(Drop)]
+#[derive(Clone, Copy)]
 pub struct Region {
     pub mask: u32,
     pub gpa: u64,
@@ -24,7 +25,7 @@ impl Region {
 }
 
 // A relocatable region as a query answers it. The flags are 1 VTL2, 2 RIP, 4 GDTR.
-#[derive(Drop)]
+#[derive(Clone, Copy)]
 pub struct IgvmRelocatableRegion {
     pub base_gpa: u64,
     pub size: u64,
@@ -37,7 +38,7 @@ pub struct IgvmRelocatableRegion {
 }
 
 // A page-table region as a query answers it.
-#[derive(Drop)]
+#[derive(Clone, Copy)]
 pub struct PageTableRegion {
     pub gpa: u64,
     pub size: u64,

@@ -1,4 +1,6 @@
 // The head of a sheet, refusals 1, 2, 3 and 7, and its table of contents; a cursor, which is a place among the rows.
+#![tactic(auto)]
+
 ghost use Rattle.std.specs.Prelude.{◌≡◌, ◌+◌, ◌*◌, ◌≤◌, ◌<◌, length, take, drop};
 ghost use Rattle.sheet.specs.Head.{limits, head_of, row_count, layout_ok, within_limits, start_fault, revision_of, page_size_fault};
 ghost use Rattle.sheet.specs.Table.{row_kind, row_length};
@@ -7,7 +9,7 @@ use igvm_defs::{Arch, Fault, IgvmRevision};
 
 // The head's numbers as they stand in the sheet.
 #[repr(C)]
-#[derive(Drop)]
+#[derive(Clone, Copy)]
 pub struct SheetHead {
     pub revision: u8,
     pub arch: u8,
@@ -123,7 +125,7 @@ pub fn start_fault(s: &[u8]) -> Fault
 // ---- rows
 
 // The row reached, from 0, and where its body starts.
-#[derive(Drop)]
+#[derive(Clone, Copy)]
 pub struct Cursor {
     pub row: usize,
     pub at: usize,

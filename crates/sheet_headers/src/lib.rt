@@ -1,4 +1,6 @@
 // The header of a row of a sheet, at a cursor.
+#![tactic(auto)]
+
 ghost use Rattle.std.specs.Prelude.{◌≡◌, ◌+◌};
 ghost use Rattle.igvm_defs.specs.Kinds.{kind_of, platform_list, initialization_list, directive_list};
 ghost use Rattle.sheet.specs.Table.{row_kind, body_of};
@@ -13,7 +15,7 @@ use platform_header::IgvmPlatformHeader;
 use sheet::Cursor;
 
 // A platform row: its header, and the cursor at the row after it.
-#[derive(Drop)]
+#[derive(Clone, Copy)]
 pub struct PlatformRow {
     pub header: IgvmPlatformHeader,
     pub next: Cursor,
@@ -31,7 +33,7 @@ pub fn platform_at(s: &[u8], c: Cursor) -> PlatformRow
 }
 
 // An initialization row: its header, and the cursor at the row after it.
-#[derive(Drop)]
+#[derive(Clone, Copy)]
 pub struct InitializationRow {
     pub header: IgvmInitializationHeader,
     pub next: Cursor,
@@ -49,7 +51,7 @@ pub fn initialization_at(s: &[u8], c: Cursor) -> InitializationRow
 }
 
 // A directive row: its header, and the cursor at the row after it.
-#[derive(Drop)]
+#[derive(Clone, Copy)]
 pub struct DirectiveRow {
     pub header: IgvmDirectiveHeader,
     pub next: Cursor,

@@ -1,5 +1,7 @@
 // The sheet reader keeps the sheet's bytes with the row reached and where that row's body starts; it hands back the body's part of the sheet.
 // The functions over it are thin and proved by hand. What they answer is computed by functions on a slice and numbers.
+#![tactic(auto)]
+
 ghost use Rattle.std.specs.Prelude.{◌≡◌, ◌+◌, ◌*◌, ◌≤◌, ◌<◌, length, take, drop};
 ghost use Rattle.sheet.specs.Head.{limits, head_of, row_count};
 ghost use Rattle.sheet.specs.Table.{row_kind, body_of};
@@ -9,7 +11,7 @@ ghost use Rattle.sheet_reader.specs.Reading.{row_of, read_at, cursor_after, read
 
 use sheet::{Cursor, SheetHead};
 
-#[derive(Drop)]
+#[derive(Clone, Copy)]
 pub struct SheetReader<'a> {
     pub bytes: &'a [u8],
     pub row: usize,
@@ -17,7 +19,7 @@ pub struct SheetReader<'a> {
 }
 
 // A row of the table of contents: kind and body length. Both 0 where there is no row; 0 is no kind.
-#[derive(Drop)]
+#[derive(Clone, Copy)]
 pub struct SheetRow {
     pub kind: u32,
     pub length: usize,
@@ -127,7 +129,7 @@ pub fn next<'a>(r: SheetReader<'a>) -> SheetReader<'a>
 // ---- with plain parameters: whoever calls these has no reader to prove
 
 // A row, the row after it and where that one's body starts.
-#[derive(Drop)]
+#[derive(Clone, Copy)]
 pub struct RowRead {
     pub what: SheetRow,
     pub row: usize,
@@ -157,7 +159,7 @@ pub fn body_of<'a>(s: &'a [u8], k: usize, at: usize) -> &'a [u8]
 
 // ---- at a cursor that stands at a row of a sheet
 
-#[derive(Drop)]
+#[derive(Clone, Copy)]
 pub struct CursorRow {
     pub kind: u32,
     pub next: Cursor,

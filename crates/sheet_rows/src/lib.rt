@@ -1,4 +1,6 @@
 // The rows of a sheet, read: refusals 4, 5, 1 and 6.
+#![tactic(auto)]
+
 ghost use Rattle.std.specs.Prelude.{◌≡◌, ◌+◌, ◌*◌, ◌≤◌, length};
 ghost use Rattle.igvm_defs.specs.Kinds.{kind_of};
 ghost use Rattle.sheet.specs.Head.{head_of, bodies_at};

@@ -1,12 +1,14 @@
 // Calls that a file stores, one record after another: a record is read, and its line written up to the numbers of the answer. A record is a head of 40 bytes and a sheet
 // (codes 4 and 5: a region's bytes, code 11: those of an index).
+#![tactic(auto)]
+
 ghost use Rattle.std.specs.Prelude.{◌≡◌, ℕ, ◌+◌, ◌*◌, ◌%◌, ◌<◌, ◌≤◌, length, get_or};
 ghost use Rattle.io.specs.Counts.{IsPrefixLen};
 
 use libc::STDOUT_FILENO;
 
 // The head of a record.
-#[derive(Drop)]
+#[derive(Clone, Copy)]
 pub struct Call {
     // 0 verdict, 1 relocations, 2 relocation_base_valid, 4 region_base_valid, 5 region_contains, 6 relocation_base_range, 7 strict_verdict, 8 report, 9 region_of,
     // 10 region_index, 11 region_in, else contains

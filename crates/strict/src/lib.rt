@@ -1,4 +1,6 @@
 // The strict verdict, from any byte string: the verdict, and where it accepts, 38 over the regions and the masks of contexts that it has kept. The sheet is gone over once.
+#![tactic(auto)]
+
 ghost use Rattle.std.specs.Prelude.{◌≡◌, Bool, false, List, ℕ, ◌≤◌, ◌<◌, length, get_or};
 ghost use Rattle.rows.specs.Below.{any_below};
 ghost use Rattle.igvm_defs.specs.Refusals.{fault, is_fault, is_refusal, in_row};

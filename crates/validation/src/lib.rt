@@ -1,4 +1,6 @@
 // The verdict by the passes over the headers: what is wrong with a sheet, from the first row on that is not known to be in order, or what is kept of it.
+#![tactic(auto)]
+
 ghost use Rattle.std.specs.Prelude.{◌≡◌, false, ◌-◌, ◌≤◌, ◌<◌, length};
 ghost use Rattle.rows.specs.Below.{any_below};
 ghost use Rattle.rows.specs.Rows.{before};
@@ -32,7 +34,7 @@ fn no_contexts(refusal: Refusal) -> DirectivesPass
 }
 
 // Where the pass over directive rows starts, and the masks of the contexts before it.
-#[derive(Drop)]
+#[derive(Clone, Copy)]
 struct Start {
     at: Cursor,
     contexts: [u32; 3],
@@ -175,7 +177,7 @@ pub fn accepted(head: SheetHead) -> Verdict
 }
 
 // The verdict, and how many regions an accepted file has.
-#[derive(Drop)]
+#[derive(Clone, Copy)]
 pub struct Judged {
     pub verdict: Verdict,
     pub count: usize,
