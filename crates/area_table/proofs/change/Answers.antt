@@ -13,52 +13,40 @@ pub place_of-p-requires : goal.place_of-p-requires
 place_of-p-requires c = c.requires.0
 
 pub state_at-requires : goal.state_at-requires
-state_at-requires c = state_asks c.requires.0 c.place_of-p.ensures.1
+state_at-requires c =
+    let (a, b) = state_asks c.requires.0 c.place_of-p.ensures.1 in
+    record { in_bounds = a; p_in_bounds = b }
+
+pub returns-then-state_at-from : goal.returns-then-state_at-from
+returns-then-state_at-from c = let found : (let a = c.args in
+    c.state_at.result ≡ state_in a.few.now a.links.now a.areas.now a.states.now a.area) = (c.state_at.ensures ∙ sym (state_place _ _ _ _ _ (omega arith) _ c.place_of-p.ensures.0)) in record { value = rw (← found) (sym (ne_eqb _ _ c.if-state_at-from.true)); by_index = λ f h. h }
+
+pub bounds-links-p : goal.bounds-links-p
+bounds-links-p c = let arrays : (let a = c.args in let p = c.place_of-p.result in
+    (p < length a.links.now) × (length a.links.now < 132097) × (get_or a.links.now p 0 < length a.states.now) × (length a.areas.now ≡ length a.states.now) × (length a.states.now < 65537)) = (let tree : Tree _ _ _ = c.requires.0 in
+    let (long, same, small) = tree.sizes in
+    (c.place_of-p.ensures.1, omega arith, tree_link tree _, same, omega arith)) in omega (arith, arrays)
 
 pub bounds-states-k : goal.bounds-states-k
-bounds-states-k c = let found : (let a = c.args in
-    c.state_at.result ≡ state_in a.few.now a.links.now a.areas.now a.states.now a.area) = (c.state_at.ensures ∙ sym (state_place _ _ _ _ _ (omega arith) _ c.place_of-p.ensures.0)) in (rw (← found) (sym (ne_eqb _ _ c.if-state_at-from.true)), λ f h. h)
+bounds-states-k c = let arrays : (let a = c.args in let p = c.place_of-p.result in
+    (p < length a.links.now) × (length a.links.now < 132097) × (get_or a.links.now p 0 < length a.states.now) × (length a.areas.now ≡ length a.states.now) × (length a.states.now < 65537)) = (let tree : Tree _ _ _ = c.requires.0 in
+    let (long, same, small) = tree.sizes in
+    (c.place_of-p.ensures.1, omega arith, tree_link tree _, same, omega arith)) in omega (arith, arrays)
 
 pub returns-then-k-ne0 : goal.returns-then-k-ne0
-returns-then-k-ne0 c = let arrays : (let a = c.args in let p = c.place_of-p.result in
-    (p < length a.links.now) × (length a.links.now < 132097) × (get_or a.links.now p 0 < length a.states.now) × (length a.areas.now ≡ length a.states.now) × (length a.states.now < 65537)) = (let tree : Tree _ _ _ = c.requires.0 in
-    let (long, same, small) = tree.sizes in
-    (c.place_of-p.ensures.1, omega arith, tree_link tree _, same, omega arith)) in omega (arith, arrays)
+returns-then-k-ne0 c = let found : (let a = c.args in
+    c.state_at.result ≡ state_in a.few.now a.links.now a.areas.now a.states.now a.area) = (c.state_at.ensures ∙ sym (state_place _ _ _ _ _ (omega arith) _ c.place_of-p.ensures.0)) in let told : (let a = c.args in let p = c.place_of-p.result in
+    (p ≢ 1024) × (get_or a.links.now p 0 ≡ 0 → get_or a.links.now 1024 0 + 1 < length a.states.now)) = (told_place _ _ _ _ c.state_at.ensures (λ t. c.requires.1 (sym c.if-state_at-from.false ∙ t))) in record { value = rw (← found) (sym (eq-eqb _ _ c.if-state_at-from.false)); by_index = λ f h. holds_put_node _ _ _ _ f h _ _ (omega arith) _ c.place_of-p.ensures.0 (told).0 (λ z. omega arith) }
 
 pub bounds-links-1024 : goal.bounds-links-1024
-bounds-links-1024 c = let arrays : (let a = c.args in let p = c.place_of-p.result in
-    (p < length a.links.now) × (length a.links.now < 132097) × (get_or a.links.now p 0 < length a.states.now) × (length a.areas.now ≡ length a.states.now) × (length a.states.now < 65537)) = (let tree : Tree _ _ _ = c.requires.0 in
-    let (long, same, small) = tree.sizes in
-    (c.place_of-p.ensures.1, omega arith, tree_link tree _, same, omega arith)) in (arrays).0
-
-pub overflow_add-m : goal.overflow_add-m
-overflow_add-m c = let arrays : (let a = c.args in let p = c.place_of-p.result in
-    (p < length a.links.now) × (length a.links.now < 132097) × (get_or a.links.now p 0 < length a.states.now) × (length a.areas.now ≡ length a.states.now) × (length a.states.now < 65537)) = (let tree : Tree _ _ _ = c.requires.0 in
-    let (long, same, small) = tree.sizes in
-    (c.place_of-p.ensures.1, omega arith, tree_link tree _, same, omega arith)) in omega (arith, arrays)
-
-pub overflow_cast-n : goal.overflow_cast-n
-overflow_cast-n c = let arrays : (let a = c.args in let p = c.place_of-p.result in
-    (p < length a.links.now) × (length a.links.now < 132097) × (get_or a.links.now p 0 < length a.states.now) × (length a.areas.now ≡ length a.states.now) × (length a.states.now < 65537)) = (let tree : Tree _ _ _ = c.requires.0 in
-    let (long, same, small) = tree.sizes in
-    (c.place_of-p.ensures.1, omega arith, tree_link tree _, same, omega arith)) in omega (arith, arrays)
-
-pub offset_bounds-links-p-2 : goal.offset_bounds-links-p-2
-offset_bounds-links-p-2 c =
-    let s = c in (
-      rw (← found s) (sym (eq-eqb _ _ s.if-state_at-from.false)),
-      λ f h. holds_put_node _ _ _ _ f h _ _ (omega arith) _ s.place_of-p.ensures.0 (told s).0 (λ z. omega arith),
-    )
-
-pub bounds-links-p-2 : goal.bounds-links-p-2
-bounds-links-p-2 c = let told : (let a = c.args in let p = c.place_of-p.result in
+bounds-links-1024 c = let told : (let a = c.args in let p = c.place_of-p.result in
     (p ≢ 1024) × (get_or a.links.now p 0 ≡ 0 → get_or a.links.now 1024 0 + 1 < length a.states.now)) = (told_place _ _ _ _ c.state_at.ensures (λ t. c.requires.1 (sym c.if-state_at-from.false ∙ t))) in let room : (let a = c.args in
     (get_or a.links.now 1024 0 + 1 < length a.states.now) × (1024 < length a.links.now)) = (let tree : Tree _ _ _ = c.requires.0 in
     let (long, _, _) = tree.sizes in
     ((told).1 (omega arith), omega arith)) in (room).1
 
-pub bounds-links-1024-2 : goal.bounds-links-1024-2
-bounds-links-1024-2 c = let arrays : (let a = c.args in let p = c.place_of-p.result in
+pub overflow_add-m : goal.overflow_add-m
+overflow_add-m c = let arrays : (let a = c.args in let p = c.place_of-p.result in
     (p < length a.links.now) × (length a.links.now < 132097) × (get_or a.links.now p 0 < length a.states.now) × (length a.areas.now ≡ length a.states.now) × (length a.states.now < 65537)) = (let tree : Tree _ _ _ = c.requires.0 in
     let (long, same, small) = tree.sizes in
     (c.place_of-p.ensures.1, omega arith, tree_link tree _, same, omega arith)) in let told : (let a = c.args in let p = c.place_of-p.result in
@@ -66,3 +54,67 @@ bounds-links-1024-2 c = let arrays : (let a = c.args in let p = c.place_of-p.res
     (get_or a.links.now 1024 0 + 1 < length a.states.now) × (1024 < length a.links.now)) = (let tree : Tree _ _ _ = c.requires.0 in
     let (long, _, _) = tree.sizes in
     ((told).1 (omega arith), omega arith)) in omega (arith, room, arrays)
+
+pub overflow_cast-n : goal.overflow_cast-n
+overflow_cast-n c = let arrays : (let a = c.args in let p = c.place_of-p.result in
+    (p < length a.links.now) × (length a.links.now < 132097) × (get_or a.links.now p 0 < length a.states.now) × (length a.areas.now ≡ length a.states.now) × (length a.states.now < 65537)) = (let tree : Tree _ _ _ = c.requires.0 in
+    let (long, same, small) = tree.sizes in
+    (c.place_of-p.ensures.1, omega arith, tree_link tree _, same, omega arith)) in let told : (let a = c.args in let p = c.place_of-p.result in
+    (p ≢ 1024) × (get_or a.links.now p 0 ≡ 0 → get_or a.links.now 1024 0 + 1 < length a.states.now)) = (told_place _ _ _ _ c.state_at.ensures (λ t. c.requires.1 (sym c.if-state_at-from.false ∙ t))) in let room : (let a = c.args in
+    (get_or a.links.now 1024 0 + 1 < length a.states.now) × (1024 < length a.links.now)) = (let tree : Tree _ _ _ = c.requires.0 in
+    let (long, _, _) = tree.sizes in
+    ((told).1 (omega arith), omega arith)) in omega (arith, room, arrays)
+
+pub offset_bounds-areas-n : goal.offset_bounds-areas-n
+offset_bounds-areas-n c = let arrays : (let a = c.args in let p = c.place_of-p.result in
+    (p < length a.links.now) × (length a.links.now < 132097) × (get_or a.links.now p 0 < length a.states.now) × (length a.areas.now ≡ length a.states.now) × (length a.states.now < 65537)) = (let tree : Tree _ _ _ = c.requires.0 in
+    let (long, same, small) = tree.sizes in
+    (c.place_of-p.ensures.1, omega arith, tree_link tree _, same, omega arith)) in let told : (let a = c.args in let p = c.place_of-p.result in
+    (p ≢ 1024) × (get_or a.links.now p 0 ≡ 0 → get_or a.links.now 1024 0 + 1 < length a.states.now)) = (told_place _ _ _ _ c.state_at.ensures (λ t. c.requires.1 (sym c.if-state_at-from.false ∙ t))) in let room : (let a = c.args in
+    (get_or a.links.now 1024 0 + 1 < length a.states.now) × (1024 < length a.links.now)) = (let tree : Tree _ _ _ = c.requires.0 in
+    let (long, _, _) = tree.sizes in
+    ((told).1 (omega arith), omega arith)) in omega (arith, room, arrays)
+
+pub bounds-areas-n : goal.bounds-areas-n
+bounds-areas-n c = let arrays : (let a = c.args in let p = c.place_of-p.result in
+    (p < length a.links.now) × (length a.links.now < 132097) × (get_or a.links.now p 0 < length a.states.now) × (length a.areas.now ≡ length a.states.now) × (length a.states.now < 65537)) = (let tree : Tree _ _ _ = c.requires.0 in
+    let (long, same, small) = tree.sizes in
+    (c.place_of-p.ensures.1, omega arith, tree_link tree _, same, omega arith)) in let told : (let a = c.args in let p = c.place_of-p.result in
+    (p ≢ 1024) × (get_or a.links.now p 0 ≡ 0 → get_or a.links.now 1024 0 + 1 < length a.states.now)) = (told_place _ _ _ _ c.state_at.ensures (λ t. c.requires.1 (sym c.if-state_at-from.false ∙ t))) in let room : (let a = c.args in
+    (get_or a.links.now 1024 0 + 1 < length a.states.now) × (1024 < length a.links.now)) = (let tree : Tree _ _ _ = c.requires.0 in
+    let (long, _, _) = tree.sizes in
+    ((told).1 (omega arith), omega arith)) in omega (arith, room, arrays)
+
+pub bounds-states-n : goal.bounds-states-n
+bounds-states-n c = let told : (let a = c.args in let p = c.place_of-p.result in
+    (p ≢ 1024) × (get_or a.links.now p 0 ≡ 0 → get_or a.links.now 1024 0 + 1 < length a.states.now)) = (told_place _ _ _ _ c.state_at.ensures (λ t. c.requires.1 (sym c.if-state_at-from.false ∙ t))) in let room : (let a = c.args in
+    (get_or a.links.now 1024 0 + 1 < length a.states.now) × (1024 < length a.links.now)) = (let tree : Tree _ _ _ = c.requires.0 in
+    let (long, _, _) = tree.sizes in
+    ((told).1 (omega arith), omega arith)) in omega (arith, room)
+
+pub offset_bounds-links-p-2 : goal.offset_bounds-links-p-2
+offset_bounds-links-p-2 c = let arrays : (let a = c.args in let p = c.place_of-p.result in
+    (p < length a.links.now) × (length a.links.now < 132097) × (get_or a.links.now p 0 < length a.states.now) × (length a.areas.now ≡ length a.states.now) × (length a.states.now < 65537)) = (let tree : Tree _ _ _ = c.requires.0 in
+    let (long, same, small) = tree.sizes in
+    (c.place_of-p.ensures.1, omega arith, tree_link tree _, same, omega arith)) in omega (arith, arrays)
+
+pub bounds-links-p-2 : goal.bounds-links-p-2
+bounds-links-p-2 c = let arrays : (let a = c.args in let p = c.place_of-p.result in
+    (p < length a.links.now) × (length a.links.now < 132097) × (get_or a.links.now p 0 < length a.states.now) × (length a.areas.now ≡ length a.states.now) × (length a.states.now < 65537)) = (let tree : Tree _ _ _ = c.requires.0 in
+    let (long, same, small) = tree.sizes in
+    (c.place_of-p.ensures.1, omega arith, tree_link tree _, same, omega arith)) in (arrays).0
+
+pub bounds-links-1024-2 : goal.bounds-links-1024-2
+bounds-links-1024-2 c = let told : (let a = c.args in let p = c.place_of-p.result in
+    (p ≢ 1024) × (get_or a.links.now p 0 ≡ 0 → get_or a.links.now 1024 0 + 1 < length a.states.now)) = (told_place _ _ _ _ c.state_at.ensures (λ t. c.requires.1 (sym c.if-state_at-from.false ∙ t))) in let room : (let a = c.args in
+    (get_or a.links.now 1024 0 + 1 < length a.states.now) × (1024 < length a.links.now)) = (let tree : Tree _ _ _ = c.requires.0 in
+    let (long, _, _) = tree.sizes in
+    ((told).1 (omega arith), omega arith)) in search ((room).1, rules)
+
+pub returns : goal.returns
+returns c = let found : (let a = c.args in
+    c.state_at.result ≡ state_in a.few.now a.links.now a.areas.now a.states.now a.area) = (c.state_at.ensures ∙ sym (state_place _ _ _ _ _ (omega arith) _ c.place_of-p.ensures.0)) in let told : (let a = c.args in let p = c.place_of-p.result in
+    (p ≢ 1024) × (get_or a.links.now p 0 ≡ 0 → get_or a.links.now 1024 0 + 1 < length a.states.now)) = (told_place _ _ _ _ c.state_at.ensures (λ t. c.requires.1 (sym c.if-state_at-from.false ∙ t))) in let room : (let a = c.args in
+    (get_or a.links.now 1024 0 + 1 < length a.states.now) × (1024 < length a.links.now)) = (let tree : Tree _ _ _ = c.requires.0 in
+    let (long, _, _) = tree.sizes in
+    ((told).1 (omega arith), omega arith)) in record { value = rw (← found) (sym (eq-eqb _ _ c.if-state_at-from.false)); by_index = λ f h. holds_put_new _ _ _ _ f h _ _ (omega arith) _ c.place_of-p.ensures.0 (told).0 (omega arith) (room).0 }

@@ -5,8 +5,5 @@ use Rattle.area_table.proofs.state_of.Goals as goal
 pub returns-then-a-lt-FEW : goal.returns-then-a-lt-FEW
 returns-then-a-lt-FEW c = sym (state_few _ _ _ _ _ (omega arith))
 
-pub state_at-requires : goal.state_at-requires
-state_at-requires c = state_asks c.requires c.place_of.ensures.1
-
 pub returns : goal.returns
 returns c = c.state_at.ensures ∙ sym (state_place _ _ _ _ _ (omega arith) _ c.place_of.ensures.0)

@@ -6,7 +6,3 @@ use Rattle.area_tree.proofs.place_of.Goals as goal
 pub loop-left-init : goal.loop-left-init
 unfolding place_of
 loop-left-init c = (rw c.root_of-p.ensures.0, omega arith)
-
-pub returns-then-k-nodes : goal.returns-then-k-nodes
-unfolding ends
-returns-then-k-nodes c =

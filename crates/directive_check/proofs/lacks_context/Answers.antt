@@ -1,0 +1,7 @@
+use Rattle.rows.proofs.Kit.{rules}
+use Rattle.directive_check.specs.Record.{lacks_context}
+use Rattle.directive_check.proofs.lacks_context.Goals as goal
+
+pub returns : goal.returns
+unfolding lacks_context
+returns c = c.lacks.ensures
