@@ -1,5 +1,5 @@
 -- What the tests of a row that names no area give, kind by kind.
-use Rattle.rows.proofs.Kit.{ℕ, ◌-◌, ◌≤◌, arith, ◌≡◌, refl, sym, ap, ◌∙◌, Bool, true, false, not, or-false, false≢true, List, bit_or, leb, length, get_or, set, le-leb}
+use Rattle.rows.proofs.Kit.{ℕ, ◌≤◌, arith, ◌≡◌, refl, sym, ap, ◌∙◌, Bool, true, false, not, or-false, false≢true, List, bit_or, leb, length, get_or, set, le-leb}
 use Rattle.le.specs.Le.{byte_at, le_at}
 use Rattle.igvm_defs.{specs.declared.Arch.Arch, specs.declared.Arch.TheVariants.{X64, AArch64}, specs.Kinds.{kind_of, spans, length_ok}, specs.Revision.{is_x64, is_aarch64}, specs.Refusals.is_fault, proofs.VtlLaws.vtl_number_lem}
 use Rattle.masks.specs.Masks.{shares}

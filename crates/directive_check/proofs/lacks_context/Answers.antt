@@ -1,4 +1,3 @@
-use Rattle.rows.proofs.Kit.{rules}
 use Rattle.directive_check.specs.Record.{lacks_context}
 use Rattle.directive_check.proofs.lacks_context.Goals as goal
 

@@ -1,4 +1,4 @@
-use Rattle.rows.{proofs.Kit.{ℕ, arith, true, ◌≡◌, refl, sym, ◌∙◌, rules, eq-eqb, ne_eqb, leb-true}, proofs.Bools.and_parts}
+use Rattle.rows.{proofs.Kit.{ℕ, arith, true, ◌≡◌, refl, sym, ◌∙◌, eq-eqb, ne_eqb, leb-true}, proofs.Bools.and_parts}
 use Rattle.igvm_defs.{specs.Kinds.{kind_of, spans}, proofs.Runs.{each, ◌⨾◌}}
 use Rattle.directive_header.specs.Fields.{is_parameter, area_named}
 use Rattle.directive_check.specs.Record.{how_named}
@@ -24,8 +24,7 @@ returns-then-kind-eq33 c = let e = eq-eqb _ _ c.if-kind-eq33.true in (rw e, rw e
 pub u32_at-area-requires-then-is_parameter : goal.u32_at-area-requires-then-is_parameter
 unfolding kind_of spans
 u32_at-area-requires-then-is_parameter c =
-    let st = c in
-    let l = rw (parameter-least st.args.kind (sym c.is_parameter.ensures ∙ c.if-is_parameter.true)) at st.requires in
+    let l = rw (parameter-least c.args.kind (sym c.is_parameter.ensures ∙ c.if-is_parameter.true)) at c.requires in
     omega arith
 
 pub returns-then-is_parameter : goal.returns-then-is_parameter

@@ -6,6 +6,5 @@ use Rattle.platform_check.proofs.validate.Goals as goal
 pub returns : goal.returns
 unfolding validate_platform is_fault
 returns c =
-    let b3 = c in
-    cc (c.or-5.ensures.is ∙ c.or-4.ensures.later _ ∙ b3.or-3.ensures.later _ ∙ b3.or-2.ensures.later _
-    ∙ b3.or.ensures.later _)
+    cc (c.or-5.ensures.is ∙ c.or-4.ensures.later _ ∙ c.or-3.ensures.later _ ∙ c.or-2.ensures.later _
+    ∙ c.or.ensures.later _)

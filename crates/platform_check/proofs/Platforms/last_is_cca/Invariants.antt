@@ -4,7 +4,7 @@ use Rattle.platform_check.specs.{declared.Platforms.Platforms, Record.last_type_
 use Rattle.platform_check.proofs.Platforms.last_is_cca.Given as goal
 
 -- the type at an index that was looked for; 255 where there is none
-abbrev type_at : Platforms → Option ℕ → ℕ
+abbrev pub type_at : Platforms → Option ℕ → ℕ
 type_at r none = 255
 type_at r (some i) = get_or r.types i 0
 

@@ -1,0 +1,5 @@
+-- The measure of `digits` is k.
+use Rattle.line.proofs.Line.+digits.Given as goal
+
+abbrev pub decreases-digits : goal.decreases-digits
+decreases-digits l = l.k
