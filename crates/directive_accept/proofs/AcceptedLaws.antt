@@ -150,5 +150,5 @@ pub plain_next : (s : List ℕ) (from c : Cursor) (contexts next : List ℕ) →
     → (r : SheetRow) → r ≡ read_at s c.row c.at → (body : List ℕ) → body ≡ take r.length (drop c.at s)
     → PlainRow (sheet_headers s).arch r.kind body contexts next → length next ≡ 3 → PlainPassed s from (cursor_after c r) next
 plain_next s from c contexts next a l r e body part row n =
-    let f = list_found s c.row c.at r e (rw (row .alone .list) (omega arith)) in
+    let f = list_found s c.row c.at r e (rw row.alone.list (omega arith)) in
     plain_more s c a.rows.read r f l from contexts next a (rw (f.kind, part ∙ body_found s c a.rows.read r f) at row) n

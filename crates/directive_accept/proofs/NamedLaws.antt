@@ -1,5 +1,5 @@
 -- Rows in order that name an area, and the rows with a table of areas.
-use Rattle.rows.{proofs.Kit.{ℕ, ◌+◌, ◌*◌, ◌-◌, ◌≤◌, ◌<◌, arith, ◌≡◌, refl, sym, ◌∙◌, false, or-false, List, [], ◌∷◌, length, get_or, take, drop, replicate}, specs.Below.any_below, specs.Rows.{Rows, before}}
+use Rattle.rows.{proofs.Kit.{ℕ, ◌+◌, ◌*◌, ◌-◌, ◌≤◌, ◌<◌, arith, ◌≡◌, refl, sym, ◌∙◌, false, or-false, List, [], ◌∷◌, length, get_or, take, drop, replicate}, specs.Below.any_below, specs.Rows.{before}}
 use Rattle.masks.specs.Masks.{shares}
 use Rattle.sheet.{specs.declared.Cursor.Cursor, specs.Head.{head_of, row_count, first_directive}, specs.Table.{row_kind, body_of}, specs.Walk.ReadTo}
 use Rattle.sheet_reader.{specs.declared.SheetRow.SheetRow, specs.Reading.{read_at, cursor_after}, proofs.ReaderLaws.{list_found, body_found}}
@@ -15,10 +15,6 @@ use Rattle.directive_accept.proofs.AcceptedLaws.{read_row_lem, accepted_more, st
 -- a header that is no context leaves the masks as they are
 pub contexts_stay : (contexts : List ℕ) (h : IgvmDirectiveHeader) → ((level bits : ℕ) → is_context level bits h ≡ false) → ContextsNext contexts h contexts
 contexts_stay contexts h other level bits = rw (other level bits) (sym (or-false (shares (get_or contexts level 0) bits)))
-
--- the arrays of a tree are as long as those before
-abbrev pub SameSizes : List ℕ → List ℕ → List ℕ → List ℕ → List ℕ → List ℕ → Type 0
-SameSizes links₀ areas₀ states₀ links areas states = (length links ≡ length links₀) × (length areas ≡ length areas₀) × (length states ≡ length states₀)
 
 -- ---- rows that name an area
 

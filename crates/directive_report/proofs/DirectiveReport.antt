@@ -200,15 +200,15 @@ module _ {s : List ℕ} {first n : ℕ} {a : Arch} {few links areas states lent 
         rows = r.rows;
         arch = r.arch;
         below = omega arith;
-        at = rw (row .after, r.first_row, add_assoc);
-        contexts_kept = row .contexts_kept;
-        areas_kept = row .areas_kept;
-        counted = rw (count_more i (λ j. is_fault (directive_report (sheet_headers s) j)), ← row .told, r.counted, byte_count (is_fault f));
+        at = rw (row.after, r.first_row, add_assoc);
+        contexts_kept = row.contexts_kept;
+        areas_kept = row.areas_kept;
+        counted = rw (count_more i (λ j. is_fault (directive_report (sheet_headers s) j)), ← row.told, r.counted, byte_count (is_fault f));
         few_faulty = let m = r.few_faulty in let o = one_at_most (is_fault f) in omega arith;
         room = r.room;
         same = rw word_length r.same;
         put = rw r.put (words_more first i f.number (report_word (sheet_headers s)) lent
-            (rw (r.first_row, word_of s i (omega arith)) (ap (λ (y : Fault). y.number) (row .told))));
+            (rw (r.first_row, word_of s i (omega arith)) (ap (λ (y : Fault). y.number) (row.told))));
       }
 
   pub directives_end : n ≤ i

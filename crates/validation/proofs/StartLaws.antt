@@ -1,7 +1,7 @@
 -- Where the pass over directive rows may start.
-use Rattle.rows.{proofs.Kit.{◌≡◌, refl, ap, false, List, ℕ, ◌+◌, ◌-◌, ◌≤◌, ◌<◌, arith, dec_lt, length}, proofs.BelowLaws.none_any, specs.Below.any_below}
+use Rattle.rows.{proofs.Kit.{◌≡◌, refl, ap, false, List, ℕ, ◌+◌, ◌≤◌, arith, dec_lt, length}, proofs.BelowLaws.none_any, specs.Below.any_below}
 use Rattle.igvm_defs.specs.Refusals.{is_fault}
-use Rattle.sheet.{specs.declared.Cursor.Cursor, specs.declared.SheetHead.SheetHead, specs.Head.{limits, head_of, row_count, first_directive}, specs.Table.offset_of, specs.Read.{Readable, row_fault}, specs.Walk.{cursor_at, ReadTo}, proofs.Readable.{row_says, readable_row, readable_end}}
+use Rattle.sheet.{specs.declared.SheetHead.SheetHead, specs.Head.{limits, head_of, row_count, first_directive}, specs.Table.offset_of, specs.Read.{Readable, row_fault}, specs.Walk.{cursor_at, ReadTo}, proofs.Readable.{row_says, readable_row, readable_end}}
 
 -- a readable sheet can be read to each of its rows, and to its end
 pub read_to : (s : List ℕ) → Readable limits s → (k : ℕ) → k ≤ row_count (head_of s) → ReadTo s (cursor_at s k)
