@@ -27,16 +27,14 @@ fn verdict(sheet: &[u8], which: u32, lent: &mut [u8]) -> u64
     numbers::tell_verdict(igvm_file::IgvmFile::new(&sheet[..]).verdict, which, lent)
 }
 
-#[unsafe(no_mangle)]
-pub extern "C" fn igvm_verdict(sheet: &[u8], which: u32) -> u64
+pub fn igvm_verdict(sheet: &[u8], which: u32) -> u64
     ensures { result ≡ number_of which (verdict_numbers (verdict_of limits sheet.now)) }
 {
     let mut none: [u8; 0] = [];
     verdict(sheet, which, &mut none)
 }
 
-#[unsafe(no_mangle)]
-pub extern "C" fn igvm_verdict_numbers(sheet: &[u8], numbers: &mut [u8]) -> u64
+pub fn igvm_verdict_numbers(sheet: &[u8], numbers: &mut [u8]) -> u64
     ensures value { result ≡ number_of 0 (verdict_numbers (verdict_of limits sheet.now)) }
     ensures numbers_after { numbers.new ≡ numbers_put (verdict_numbers (verdict_of limits sheet.now)) numbers.old }
 {
@@ -52,16 +50,14 @@ fn strict_verdict(sheet: &[u8], which: u32, lent: &mut [u8]) -> u64
     numbers::tell_verdict(strict::strict_verdict(&sheet[..]), which, lent)
 }
 
-#[unsafe(no_mangle)]
-pub extern "C" fn igvm_strict_verdict(sheet: &[u8], which: u32) -> u64
+pub fn igvm_strict_verdict(sheet: &[u8], which: u32) -> u64
     ensures { result ≡ number_of which (verdict_numbers (strict_verdict_of limits sheet.now)) }
 {
     let mut none: [u8; 0] = [];
     strict_verdict(sheet, which, &mut none)
 }
 
-#[unsafe(no_mangle)]
-pub extern "C" fn igvm_strict_verdict_numbers(sheet: &[u8], numbers: &mut [u8]) -> u64
+pub fn igvm_strict_verdict_numbers(sheet: &[u8], numbers: &mut [u8]) -> u64
     ensures value { result ≡ number_of 0 (verdict_numbers (strict_verdict_of limits sheet.now)) }
     ensures numbers_after { numbers.new ≡ numbers_put (verdict_numbers (strict_verdict_of limits sheet.now)) numbers.old }
 {
@@ -108,8 +104,7 @@ fn report(sheet: &[u8], words: &mut [u8], which: u32, lent: &mut [u8]) -> u64
     numbers::tell(&found, which, lent)
 }
 
-#[unsafe(no_mangle)]
-pub extern "C" fn igvm_report(sheet: &[u8], words: &mut [u8], which: u32) -> u64
+pub fn igvm_report(sheet: &[u8], words: &mut [u8], which: u32) -> u64
     ensures value { result ≡ number_of which (report_numbers (report_of limits sheet.now (length words.old))) }
     ensures words_after { words.new ≡ report_after limits sheet.now words.old }
 {
@@ -117,8 +112,7 @@ pub extern "C" fn igvm_report(sheet: &[u8], words: &mut [u8], which: u32) -> u64
     report(sheet, words, which, &mut none)
 }
 
-#[unsafe(no_mangle)]
-pub extern "C" fn igvm_report_numbers(sheet: &[u8], words: &mut [u8], numbers: &mut [u8]) -> u64
+pub fn igvm_report_numbers(sheet: &[u8], words: &mut [u8], numbers: &mut [u8]) -> u64
     ensures value { result ≡ number_of 0 (report_numbers (report_of limits sheet.now (length words.old))) }
     ensures words_after { words.new ≡ report_after limits sheet.now words.old }
     ensures numbers_after { numbers.new ≡ numbers_put (report_numbers (report_of limits sheet.now (length words.old))) numbers.old }
@@ -137,8 +131,7 @@ fn region_list(sheet: &[u8], mask: u32, words: &mut [u8], which: u32, lent: &mut
     numbers::tell(&found, which, lent)
 }
 
-#[unsafe(no_mangle)]
-pub extern "C" fn igvm_relocations(sheet: &[u8], mask: u32, words: &mut [u8], which: u32) -> u64
+pub fn igvm_relocations(sheet: &[u8], mask: u32, words: &mut [u8], which: u32) -> u64
     ensures value { result ≡ number_of which (relocation_numbers (relocations_of limits sheet.now mask (length words.old))) }
     ensures words_after { words.new ≡ words_after limits sheet.now mask words.old }
 {
@@ -146,8 +139,7 @@ pub extern "C" fn igvm_relocations(sheet: &[u8], mask: u32, words: &mut [u8], wh
     region_list(sheet, mask, words, which, &mut none)
 }
 
-#[unsafe(no_mangle)]
-pub extern "C" fn igvm_relocations_numbers(
+pub fn igvm_relocations_numbers(
     sheet: &[u8],
     mask: u32,
     words: &mut [u8],
@@ -172,8 +164,7 @@ fn base_check(sheet: &[u8], mask: u32, region: u64, base: u64, which: u32, lent:
     numbers::tell(&found, which, lent)
 }
 
-#[unsafe(no_mangle)]
-pub extern "C" fn igvm_relocation_base_valid(
+pub fn igvm_relocation_base_valid(
     sheet: &[u8],
     mask: u32,
     region: u64,
@@ -186,8 +177,7 @@ pub extern "C" fn igvm_relocation_base_valid(
     base_check(sheet, mask, region, base, which, &mut none)
 }
 
-#[unsafe(no_mangle)]
-pub extern "C" fn igvm_relocation_base_valid_numbers(
+pub fn igvm_relocation_base_valid_numbers(
     sheet: &[u8],
     mask: u32,
     region: u64,
@@ -220,8 +210,7 @@ fn base_range(
     numbers::tell(&found, which, lent)
 }
 
-#[unsafe(no_mangle)]
-pub extern "C" fn igvm_relocation_base_range(
+pub fn igvm_relocation_base_range(
     sheet: &[u8],
     mask: u32,
     region: u64,
@@ -235,8 +224,7 @@ pub extern "C" fn igvm_relocation_base_range(
     base_range(sheet, mask, region, lowest, highest, which, &mut none)
 }
 
-#[unsafe(no_mangle)]
-pub extern "C" fn igvm_relocation_base_range_numbers(
+pub fn igvm_relocation_base_range_numbers(
     sheet: &[u8],
     mask: u32,
     region: u64,
@@ -260,16 +248,14 @@ fn address_check(sheet: &[u8], mask: u32, region: u64, gpa: u64, which: u32, len
     numbers::tell(&found, which, lent)
 }
 
-#[unsafe(no_mangle)]
-pub extern "C" fn igvm_contains(sheet: &[u8], mask: u32, region: u64, gpa: u64, which: u32) -> u64
+pub fn igvm_contains(sheet: &[u8], mask: u32, region: u64, gpa: u64, which: u32) -> u64
     ensures { result ≡ number_of which (check_numbers (contains_of limits sheet.now mask region gpa)) }
 {
     let mut none: [u8; 0] = [];
     address_check(sheet, mask, region, gpa, which, &mut none)
 }
 
-#[unsafe(no_mangle)]
-pub extern "C" fn igvm_contains_numbers(
+pub fn igvm_contains_numbers(
     sheet: &[u8],
     mask: u32,
     region: u64,
@@ -284,15 +270,13 @@ pub extern "C" fn igvm_contains_numbers(
 
 // ---- the same checks on a region's eight words, as the region list puts them, without the sheet: number 3 alone
 
-#[unsafe(no_mangle)]
-pub extern "C" fn igvm_region_base_valid(region: &[u8], base: u64) -> u64
+pub fn igvm_region_base_valid(region: &[u8], base: u64) -> u64
     ensures { result ≡ region_base_check_of region.now base }
 {
     region_check::base_valid(region, base)
 }
 
-#[unsafe(no_mangle)]
-pub extern "C" fn igvm_region_contains(region: &[u8], gpa: u64) -> u64
+pub fn igvm_region_contains(region: &[u8], gpa: u64) -> u64
     ensures { result ≡ region_contains_of region.now gpa }
 {
     region_check::contains(region, gpa)
@@ -308,21 +292,14 @@ fn region_owner(sheet: &[u8], mask: u32, gpa: u64, which: u32, lent: &mut [u8]) 
     numbers::tell(&found, which, lent)
 }
 
-#[unsafe(no_mangle)]
-pub extern "C" fn igvm_region_of(sheet: &[u8], mask: u32, gpa: u64, which: u32) -> u64
+pub fn igvm_region_of(sheet: &[u8], mask: u32, gpa: u64, which: u32) -> u64
     ensures { result ≡ number_of which (answer_numbers (region_owner_of limits sheet.now mask gpa)) }
 {
     let mut none: [u8; 0] = [];
     region_owner(sheet, mask, gpa, which, &mut none)
 }
 
-#[unsafe(no_mangle)]
-pub extern "C" fn igvm_region_of_numbers(
-    sheet: &[u8],
-    mask: u32,
-    gpa: u64,
-    numbers: &mut [u8],
-) -> u64
+pub fn igvm_region_of_numbers(sheet: &[u8], mask: u32, gpa: u64, numbers: &mut [u8]) -> u64
     ensures value { result ≡ number_of 0 (answer_numbers (region_owner_of limits sheet.now mask gpa)) }
     ensures numbers_after { numbers.new ≡ numbers_put (answer_numbers (region_owner_of limits sheet.now mask gpa)) numbers.old }
 {
@@ -340,8 +317,7 @@ fn region_index(sheet: &[u8], mask: u32, words: &mut [u8], which: u32, lent: &mu
     numbers::tell(&found, which, lent)
 }
 
-#[unsafe(no_mangle)]
-pub extern "C" fn igvm_region_index(sheet: &[u8], mask: u32, words: &mut [u8], which: u32) -> u64
+pub fn igvm_region_index(sheet: &[u8], mask: u32, words: &mut [u8], which: u32) -> u64
     ensures value { result ≡ number_of which (answer_numbers (region_index_of limits sheet.now mask (length words.old))) }
     ensures words_after { words.new ≡ index_after limits sheet.now mask words.old }
 {
@@ -349,8 +325,7 @@ pub extern "C" fn igvm_region_index(sheet: &[u8], mask: u32, words: &mut [u8], w
     region_index(sheet, mask, words, which, &mut none)
 }
 
-#[unsafe(no_mangle)]
-pub extern "C" fn igvm_region_index_numbers(
+pub fn igvm_region_index_numbers(
     sheet: &[u8],
     mask: u32,
     words: &mut [u8],
@@ -365,8 +340,7 @@ pub extern "C" fn igvm_region_index_numbers(
 
 // ---- the owner of an address by the words of an index, without the sheet: number 3 alone
 
-#[unsafe(no_mangle)]
-pub extern "C" fn igvm_region_in(words: &[u8], gpa: u64) -> u64
+pub fn igvm_region_in(words: &[u8], gpa: u64) -> u64
     ensures { result ≡ region_in words.now gpa }
 {
     region_check::region_in(words, gpa)

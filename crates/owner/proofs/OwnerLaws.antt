@@ -16,7 +16,7 @@ module _ (f : Headers) (masks gpas sizes vps vtls : List ℕ) (tables : List Boo
   at k = in_order next (k + 1) - 1
 
   at_below : (k : ℕ) → k < n → at k < n
-  at_below k l = let (a, b) = by .each k l in omega arith
+  at_below k l = let (a, b) = by.each k l in omega arith
 
   -- ---- the owner of an address
 
@@ -30,7 +30,7 @@ module _ (f : Headers) (masks gpas sizes vps vtls : List ℕ) (tables : List Boo
       go : (o : Option ℕ) → first_below n (owns_in_place masks gpas sizes next given gpa) ≡ o → owned_row masks gpas sizes rows next n given gpa ≡ owner_of f given gpa
       go none e =
           let no = (first_any n (owns_in_place masks gpas sizes next given gpa)).0 e in
-          let same = count_any n (owns_in_place masks gpas sizes next given gpa) (owned masks gpas sizes given gpa) (by .counts (owned masks gpas sizes given gpa)) in
+          let same = count_any n (owns_in_place masks gpas sizes next given gpa) (owned masks gpas sizes given gpa) (by.counts (owned masks gpas sizes given gpa)) in
           let rowless = (none_any f.initializations.count (λ i. region_passes (owns_address given gpa) (f.initializations.row i))).0 (none_owns (sym same ∙ no)) in
           rw e (sym (owner_none f given gpa rowless))
       go (some k) e =
@@ -76,7 +76,7 @@ module _ (f : Headers) (masks gpas sizes vps vtls : List ℕ) (tables : List Boo
 
   -- of two regions of the mask the later in order starts above the earlier
   starts_rise_on : (j k : ℕ) → j < k → k < n → of_mask (at j) ≡ true → of_mask (at k) ≡ true → get_or gpas (at j) 0 < get_or gpas (at k) 0
-  starts_rise_on j k l h a b = go (eq-or-lt_of_le (by .rises j k (omega arith) h))
+  starts_rise_on j k l h a b = go (eq-or-lt_of_le (by.rises j k (omega arith) h))
     where
       test : ℕ → Bool
       test e = starts_at (get_or gpas (at k) 0) (entry held e)
@@ -88,7 +88,7 @@ module _ (f : Headers) (masks gpas sizes vps vtls : List ℕ) (tables : List Boo
           let tk : test (at k) ≡ true = and_both (of_mask (at k)) (eqb (get_or gpas (at k) 0) (get_or gpas (at k) 0)) b (eq-eqb (get_or gpas (at k) 0) (get_or gpas (at k) 0) refl) in
           let u = count_lt j k (λ i. test (at i)) l tj in
           let v = count_lt k n (λ i. test (at i)) h tk in
-          let c = by .counts test in
+          let c = by.counts test in
           let d = numbers.counts (starts_at (get_or gpas (at k) 0)) in
           let m = one_start (get_or gpas (at k) 0) in
           absurd (omega (arith, u, v, c, d, m))
@@ -100,7 +100,7 @@ module _ (f : Headers) (masks gpas sizes vps vtls : List ℕ) (tables : List Boo
       let g = get_or gpas (at k) 0 in
       let below : Region → Bool = λ (r : Region). is_of_mask given r && ltb r.gpa g in
       let c = numbers.counts below in
-      let d = by .counts (λ e. below (entry held e)) in
+      let d = by.counts (λ e. below (entry held e)) in
       let e : k + (n - k) ≡ n = omega arith in
       let whole = sum_split k (n - k) (λ i. cond (below (entry held (at i))) 1 0) in
       let early = count_same_tests k (λ i. below (entry held (at i))) (λ j. of_mask (at j)) (λ i h. early_same i h (of_mask (at i)) refl) in
@@ -113,7 +113,7 @@ module _ (f : Headers) (masks gpas sizes vps vtls : List ℕ) (tables : List Boo
       early_same i h false e = rw e
 
       late_none : (i : ℕ) → k ≤ i → i < n → (of_mask (at i) && ltb (get_or gpas (at i) 0) (get_or gpas (at k) 0)) ≡ false
-      late_none i a b = rw (le-ltb (get_or gpas (at i) 0) (get_or gpas (at k) 0) (by .rises k i a b)) (and-false (of_mask (at i)))
+      late_none i a b = rw (le-ltb (get_or gpas (at i) 0) (get_or gpas (at k) 0) (by.rises k i a b)) (and-false (of_mask (at i)))
 
   -- the three words of the region in place k + 1, where it is of the mask
   pub words_of : (k : ℕ) → k < n → of_mask (at k) ≡ true → (c : ℕ) → c ≡ count_below k (λ j. of_mask (at j))

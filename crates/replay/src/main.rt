@@ -4,7 +4,8 @@
 
 ghost use Rattle.std.specs.Prelude.{◌*◌, ◌<◌, ◌≤◌, length};
 
-use libc::STDOUT_FILENO;
+use std::io::{BufWriter, Write};
+use std::{env, io};
 use stored_calls::Call;
 
 fn ask(c: Call, sheet: &[u8], lent: &mut [u8], which: u32) -> u64 {
@@ -107,54 +108,68 @@ fn all_same(c: Call, sheet: &[u8], lent: &[u8], found: &[u64]) -> bool
 
 // ---- the line
 
-fn write(text: &[u8]) {
-    io::write_all(STDOUT_FILENO, text);
-}
-
 // A number of the answer.
-fn write_found(n: u64) {
-    write(b" ");
-    io::print_decimal(STDOUT_FILENO, n);
+fn write_found<W: Write>(out: &mut W, n: u64) -> io::Result<()> {
+    write!(out, " {n}")
 }
 
-fn write_byte(b: u8) {
-    io::print_hex(STDOUT_FILENO, b as u64, 2);
+fn write_byte<W: Write>(out: &mut W, b: u8) -> io::Result<()> {
+    write!(out, "{b:02x}")
 }
 
 // Groups of eight bytes.
-fn write_bytes(b: &[u8]) {
+fn write_bytes<W: Write>(out: &mut W, b: &[u8]) -> io::Result<()> {
     let mut i = 0;
     while i < b.len() {
         if i % 8 == 0 {
-            write(b" ");
+            out.write_all(b" ")?;
         }
-        write_byte(b[i]);
+        write_byte(out, b[i])?;
         i += 1;
     }
+    Ok(())
 }
 
-// The rest of the line, after its numbers: the lent bytes, where there are any, and of a call that has a sibling how the two compare.
-fn finish(c: Call, sheet: &[u8], lent: &[u8], found: &[u64])
+// How a call compares with its sibling; a call of one number has none.
+fn write_same<W: Write>(
+    out: &mut W,
+    c: Call,
+    sheet: &[u8],
+    lent: &[u8],
+    found: &[u64],
+) -> io::Result<()>
     requires { (c.numbers ≤ 11) × (c.numbers ≤ length found.now) × (length lent.now ≤ 4224) }
 {
-    if 0 < lent.len() {
-        write(b" bytes");
-        write_bytes(lent);
-    }
-    // A call of one number has no sibling.
     let asked = c.numbers as usize;
     if 1 < asked {
         let n = asked - 1;
         if all_same(c, sheet, lent, &found[..n]) {
-            write(b" all same");
-        } else {
-            write(b" all differ");
+            return out.write_all(b" all same");
         }
+        return out.write_all(b" all differ");
     }
-    write(b"\n");
+    Ok(())
 }
 
-fn write_answer(c: Call, sheet: &[u8], lent: &mut [u8])
+// The rest of the line, after its numbers: the lent bytes, where there are any, and of a call that has a sibling how the two compare.
+fn finish<W: Write>(
+    out: &mut W,
+    c: Call,
+    sheet: &[u8],
+    lent: &[u8],
+    found: &[u64],
+) -> io::Result<()>
+    requires { (c.numbers ≤ 11) × (c.numbers ≤ length found.now) × (length lent.now ≤ 4224) }
+{
+    if 0 < lent.len() {
+        out.write_all(b" bytes")?;
+        write_bytes(out, lent)?;
+    }
+    write_same(out, c, sheet, lent, found)?;
+    out.write_all(b"\n")
+}
+
+fn write_answer<W: Write>(out: &mut W, c: Call, sheet: &[u8], lent: &mut [u8]) -> io::Result<()>
     requires { (c.numbers ≤ 11) × (length lent.old ≤ 4224) }
 {
     let n = c.numbers;
@@ -162,47 +177,47 @@ fn write_answer(c: Call, sheet: &[u8], lent: &mut [u8])
     let mut which = 0;
     while which < n {
         let number = ask(c, sheet, lent, which);
-        write_found(number);
+        write_found(out, number)?;
         found[which as usize] = number;
         which += 1;
     }
-    finish(c, sheet, lent, &found);
+    finish(out, c, sheet, lent, &found)
 }
 
-fn replay_record(one: &[u8])
+fn replay_record<W: Write>(out: &mut W, one: &[u8]) -> io::Result<()>
     requires { 40 ≤ length one.now }
 {
     let mut space = [0u8; 4224];
-    let c = stored_calls::start(one, &mut space);
+    let c = stored_calls::start(out, one, &mut space)?;
     let n = c.lent;
-    write_answer(c, &one[40..], &mut space[..n]);
+    write_answer(out, c, &one[40..], &mut space[..n])
 }
 
-fn replay(s: &[u8]) {
+fn replay<W: Write>(out: &mut W, s: &[u8]) -> io::Result<()> {
     let mut at = 0;
     while at < s.len() {
-        let n = stored_calls::record_length(s, at);
+        let n = stored_calls::record_length(out, s, at)?;
         if n < 40 {
-            return;
+            return Ok(());
         }
         let end = at + n;
-        replay_record(&s[at..end]);
+        replay_record(out, &s[at..end])?;
         at = end;
     }
+    Ok(())
 }
 
-// The calls of the file that argument i names, of at most 524,288 bytes.
-fn replay_argument(i: usize) {
-    let mut space = [0u8; 524288];
-    let n = stored_calls::read_file(i, &mut space);
-    replay(&space[..n]);
+// The calls of the file of that name, of at most 524,288 bytes.
+fn replay_file<W: Write>(rt: &HostRuntime, out: &mut W, name: &str) -> io::Result<()> {
+    let mut space = vec![in rt.alloc(); 0u8; 524288]?;
+    let n = stored_calls::read_file(rt, out, name, &mut space)?;
+    replay(out, &space[..n])
 }
 
-fn main() {
-    let n = os::arg_count();
-    let mut i = 1;
-    while i < n {
-        replay_argument(i);
-        i += 1;
+fn main(rt: HostRuntime) -> io::Result<()> {
+    let mut out = BufWriter::new(rt.alloc(), io::writer(&rt))?;
+    for name in env::args(&rt)?.skip(1) {
+        replay_file(&rt, &mut out, name.as_str())?;
     }
+    out.flush()
 }

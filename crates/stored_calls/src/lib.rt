@@ -2,10 +2,10 @@
 // (codes 4 and 5: a region's bytes, code 11: those of an index).
 #![tactic(auto)]
 
-ghost use Rattle.std.specs.Prelude.{◌≡◌, ℕ, ◌+◌, ◌*◌, ◌%◌, ◌<◌, ◌≤◌, length, get_or};
-ghost use Rattle.io.specs.Counts.{IsPrefixLen};
+ghost use Rattle.std.specs.Prelude.{◌≡◌, ℕ, ◌+◌, ◌*◌, ◌%◌, ◌<◌, ◌≤◌, length, take, get_or, IfOk, OnErr};
 
-use libc::STDOUT_FILENO;
+use std::io::Write;
+use std::{fs, io};
 
 // The head of a record.
 #[derive(Clone, Copy)]
@@ -39,13 +39,9 @@ const NO_CALL: Call = Call {
     numbers: 0,
 };
 
-fn write(text: &[u8]) {
-    io::write_all(STDOUT_FILENO, text);
-}
-
-fn write_number(words: &[u8], n: u64) {
-    write(words);
-    io::print_decimal(STDOUT_FILENO, n);
+fn write_number<W: Write>(out: &mut W, words: &[u8], n: u64) -> io::Result<()> {
+    out.write_all(words)?;
+    write!(out, "{n}")
 }
 
 // What lent bytes hold before a call.
@@ -59,50 +55,50 @@ pub fn fill(b: &mut [u8])
     }
 }
 
-fn write_region(call: &[u8], c: Call, value: &[u8]) {
-    write(call);
-    write_number(b" mask ", c.mask as u64);
-    write_number(b" region ", c.region);
-    write_number(value, c.value);
+fn write_region<W: Write>(out: &mut W, call: &[u8], c: Call, value: &[u8]) -> io::Result<()> {
+    out.write_all(call)?;
+    write_number(out, b" mask ", c.mask as u64)?;
+    write_number(out, b" region ", c.region)?;
+    write_number(out, value, c.value)
 }
 
-fn write_call(c: Call) {
+fn write_call<W: Write>(out: &mut W, c: Call) -> io::Result<()> {
     let code = c.code;
     match code {
-        0 => write(b"verdict"),
+        0 => out.write_all(b"verdict"),
         1 => {
-            write_number(b"relocations mask ", c.mask as u64);
-            write_number(b" lent ", c.lent as u64);
+            write_number(out, b"relocations mask ", c.mask as u64)?;
+            write_number(out, b" lent ", c.lent as u64)
         }
-        2 => write_region(b"relocation_base_valid", c, b" base "),
-        4 => write_number(b"region_base_valid base ", c.value),
-        5 => write_number(b"region_contains gpa ", c.value),
+        2 => write_region(out, b"relocation_base_valid", c, b" base "),
+        4 => write_number(out, b"region_base_valid base ", c.value),
+        5 => write_number(out, b"region_contains gpa ", c.value),
         6 => {
-            write_region(b"relocation_base_range", c, b" lowest ");
-            write_number(b" highest ", c.highest);
+            write_region(out, b"relocation_base_range", c, b" lowest ")?;
+            write_number(out, b" highest ", c.highest)
         }
-        7 => write(b"strict_verdict"),
-        8 => write_number(b"report lent ", c.lent as u64),
+        7 => out.write_all(b"strict_verdict"),
+        8 => write_number(out, b"report lent ", c.lent as u64),
         9 => {
-            write_number(b"region_of mask ", c.mask as u64);
-            write_number(b" gpa ", c.value);
+            write_number(out, b"region_of mask ", c.mask as u64)?;
+            write_number(out, b" gpa ", c.value)
         }
         10 => {
-            write_number(b"region_index mask ", c.mask as u64);
-            write_number(b" lent ", c.lent as u64);
+            write_number(out, b"region_index mask ", c.mask as u64)?;
+            write_number(out, b" lent ", c.lent as u64)
         }
-        11 => write_number(b"region_in gpa ", c.value),
-        _ => write_region(b"contains", c, b" gpa "),
+        11 => write_number(out, b"region_in gpa ", c.value),
+        _ => write_region(out, b"contains", c, b" gpa "),
     }
 }
 
-fn write_answered(c: Call) {
+fn write_answered<W: Write>(out: &mut W, c: Call) -> io::Result<()> {
     let answered = c.answered;
     match answered {
-        0 => write(b"01 "),
-        1 => write(b"rust "),
-        2 => write(b"rust 02 "),
-        _ => write(b"02 "),
+        0 => out.write_all(b"01 "),
+        1 => out.write_all(b"rust "),
+        2 => out.write_all(b"rust 02 "),
+        _ => out.write_all(b"02 "),
     }
 }
 
@@ -136,51 +132,55 @@ fn call_of(one: &[u8]) -> Call
 }
 
 // The call of a record, and the line up to its numbers. The first bytes of `space` are what it lends.
-pub fn start(one: &[u8], space: &mut [u8]) -> Call
+pub fn start<W: Write>(out: &mut W, one: &[u8], space: &mut [u8]) -> io::Result<Call>
     requires { 40 ≤ length one.now }
-    ensures prefix_len { IsPrefixLen result.lent space.new }
-    ensures numbers_bound { result.numbers ≤ 11 }
+    ensures prefix_len { IfOk result (λ c. (c.lent ≤ length space.new) × (c.lent ≡ length (take c.lent space.new))) }
+    ensures numbers_bound { IfOk result (λ c. c.numbers ≤ 11) }
+    ensures unwritten { OnErr result (length space.new ≡ length space.old) }
 {
     fill(space);
     let c = call_of(one);
-    write_answered(c);
-    write_call(c);
-    write(b":");
+    write_answered(out, c)?;
+    write_call(out, c)?;
+    out.write_all(b":")?;
     if c.lent <= space.len() {
-        return c;
+        return Ok(c);
     }
-    write(b" lends more than 4224 bytes");
-    NO_CALL
+    out.write_all(b" lends more than 4224 bytes")?;
+    Ok(NO_CALL)
 }
 
 // The length of the record that starts at `at`; 0, and a line that says so, if it is not whole.
-pub fn record_length(s: &[u8], at: usize) -> usize
+pub fn record_length<W: Write>(out: &mut W, s: &[u8], at: usize) -> io::Result<usize>
     requires { at ≤ length s.now }
-    ensures { at + result ≤ length s.now }
+    ensures { IfOk result (λ n. at + n ≤ length s.now) }
 {
     let left = s.len() - at;
     if 40 <= left {
         let sheet = le::u32_at(s, at + 36) as usize;
         if sheet <= left - 40 {
-            return 40 + sheet;
+            return Ok(40 + sheet);
         }
     }
-    write(b"a record that is not whole\n");
-    0
+    out.write_all(b"a record that is not whole\n")?;
+    Ok(0)
 }
 
-// Reads the file that argument i names: how many bytes it has, at most those of `space`.
-pub fn read_file(i: usize, space: &mut [u8]) -> usize
-    ensures { IsPrefixLen result space.new }
+// Reads the file of that name: how many bytes it has, at most those of `space`.
+pub fn read_file<W: Write>(
+    rt: &HostRuntime,
+    out: &mut W,
+    name: &str,
+    space: &mut [u8],
+) -> io::Result<usize>
+    ensures ok { IfOk result (λ n. (n ≤ length space.new) × (n ≡ length (take n space.new))) }
+    ensures unwritten { OnErr result (length space.new ≡ length space.old) }
 {
-    let mut name = io::buffer();
-    let n = os::arg(i, &mut name);
-    let fd = os::open_read(&name[..n]);
-    if fd < 0 {
-        write(b"the file can't be opened\n");
-        return 0;
+    match fs::open(rt, name) {
+        Ok(mut file) => Ok(input::read_full(&mut file, space)),
+        Err(_) => {
+            out.write_all(b"the file can't be opened\n")?;
+            Ok(0)
+        }
     }
-    let found = io::read_full(fd, space);
-    libc::close(fd);
-    found
 }
