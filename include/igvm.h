@@ -1,4 +1,4 @@
-/* The calls of libigvm.a (`rt staticlib igvm`), for x86-64 Linux. Sheets are described in docs/SHEET.md, refusals in docs/REFUSALS.md of the repository.
+/* The calls of libigvm.a (`tools/build library`), for x86-64 Linux. Sheets are described in docs/SHEET.md, refusals in docs/REFUSALS.md of the repository.
  *
  * A call takes the bytes of a sheet and returns number `which` of its answer, and 0 where the answer has no such number. The first three numbers of every answer
  * are the refusal: 0 its number (0: nothing is refused), 1 the row that it names (from 1; 0 for the sheet as a whole), 2 its detail. In a refusal every other

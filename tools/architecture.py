@@ -21,7 +21,7 @@ def listed():
     """Each crate of crates.txt with its dependencies, without the kit's, in the order of the file."""
     lines = [line.split("#")[0] for line in (ROOT / "crates.txt").read_text().splitlines()]
     pairs = [line.split(":") for line in lines if line.strip()]
-    return {name.strip(): [d for d in deps.split() if d not in KIT] for name, deps in pairs}
+    return {name.split()[0]: [d for d in deps.split() if d not in KIT] for name, deps in pairs}
 
 
 def levels(crates):
@@ -46,13 +46,13 @@ def block(crates):
 
 
 def cited(name, crates):
-    """The crates that the files of this one name: in code `other::`, in definitions and proofs `Rattle·other`."""
+    """The crates that the files of this one name: in code `other::`, in definitions and proofs `Rattle.other`."""
     found = set()
     for file in (CRATES / name).rglob("*.antt"):
-        found |= set(re.findall(r"Rattle·(\w+)", file.read_text()))
+        found |= set(re.findall(r"Rattle\.(\w+)", file.read_text()))
     for file in (CRATES / name).rglob("*.rt"):
         code = re.sub(r"//.*", "", file.read_text())
-        found |= set(re.findall(r"Rattle·(\w+)", code)) | set(re.findall(r"(?<![\w:.])(\w+)::", code))
+        found |= set(re.findall(r"Rattle\.(\w+)", code)) | set(re.findall(r"(?<![\w:.])(\w+)::", code))
     return {c for c in found if c in crates and c != name}
 
 

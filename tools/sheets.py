@@ -888,7 +888,7 @@ README = """# Sample sheets
 One sheet for each refusal, some that are accepted, some for whose region a base or a range of bases is proposed, some for the strict verdict, some with several faults for the report, some in which the owner of an address is
 looked up, and one from which headers are dropped. `admit` answers the verdict:
 
-    rt check admit && target/bin/admit < samples/19-alignment-zero.sheet
+    tools/build admit && target/bin/admit < samples/19-alignment-zero.sheet
 
 It takes up to 65,536 bytes and refuses by 3 what is longer: `accepted-largest-lists`, `accepted-6000-pages`, `accepted-8192-directives` and `03-8193-directives`, whose answers beside them are those of the library's
 call and of the examples in Rust and in C. The verdict accepts 35 to 38 and 50; it is the call beside them that is refused (`lent` is in bytes). It accepts the sheets `base-..` and `range-..` too, and those of

@@ -1,4 +1,4 @@
-//! Links the library that `rt staticlib igvm` writes. IGVM_LIB names the archive, if it is not target/staticlib/libigvm.a of the repository. Without the
+//! Links the library that `tools/build library` writes. IGVM_LIB names the archive, if it is not target/staticlib/libigvm.a of the repository. Without the
 //! archive nothing is linked, and a warning says what to do: `cargo check`, `cargo clippy` and `cargo doc` don't need it.
 
 use std::env;
@@ -14,7 +14,7 @@ fn main() {
             "cargo:warning=there is no library at {}, so nothing is linked: a program or a test has undefined symbols",
             archive.display()
         );
-        println!("cargo:warning=`rt staticlib igvm` in the repository writes target/staticlib/libigvm.a; IGVM_LIB names an archive elsewhere, by its full path");
+        println!("cargo:warning=`tools/build library` in the repository writes target/staticlib/libigvm.a; IGVM_LIB names an archive elsewhere, by its full path");
         return;
     };
     println!("cargo:rustc-link-search=native={folder}");

@@ -12,9 +12,9 @@ use Rattle.rules.{specs.Regions.region_passes, specs.Directives.{allocates, inse
 use Rattle.initialization_check.{specs.declared.RelocRegions.RelocRegions, specs.Record.{entry, any_region, HoldsRegions}}
 use Rattle.directive_check.{specs.Record.{HoldsContexts, lacks_context, DirectiveStepped, how_of}, proofs.DirectiveRecordLaws.{holds_no_contexts, lacks_says, allocates_says, inserts_says}}
 use Rattle.area_table.{specs.AreaTable.HoldsAreas, proofs.AreaTableLaws.holds_same}
-use Rattle.directive_row.{specs.Row.{area_state, state_of, bad_in, state_next}, proofs.StateLaws.{area_at, Sound, bad_state, state_more}}
-use Rattle.directive_report.specs.Reported.{kept_to, WordsTo, RowReported}
-use Rattle.directive_report.proofs.AreaLaws.{kept_inserted}
+use Rattle.directive_row.specs.Row.{area_state, state_of}
+use Rattle.directive_report.specs.Reported.{kept_to, WordsTo, bad_in, state_next, RowReported}
+use Rattle.directive_report.proofs.AreaLaws.{area_at, Sound, kept_inserted, bad_state, state_more}
 
 -- the rule of this list
 abbrev pub rule_of : List ℕ → Rows IgvmDirectiveHeader → IgvmDirectiveHeader → Fault

@@ -1,5 +1,5 @@
 -- The directive rows kept so far, what is known of areas by them, and what is known after one row more.
-use Rattle.std.specs.Prelude.{ℕ, ◌+◌, ◌*◌, ◌<◌, ◌≤◌, List, ◌≡◌, length}
+use Rattle.std.specs.Prelude.{ℕ, ◌+◌, ◌*◌, ◌<◌, ◌≤◌, Bool, false, cond, not, List, ◌≡◌, eqb, length}
 use Rattle.rows.specs.Rows.{Rows}
 use Rattle.le.specs.Le.{le_at}
 use Rattle.igvm_defs.specs.declared.Fault.{Fault}
@@ -23,6 +23,14 @@ kept_to s n = kept_below (directive_fault (sheet_headers s).arch (kept_initializ
 pub record WordsTo (s words : List ℕ) (n : ℕ) : Type 0 where
   pub room : 8 * (first_directive s + n) ≤ length words
   pub word : (j : ℕ) → j < n → le_at 8 words (8 * (first_directive s + j)) ≡ report_word (sheet_headers s) (first_directive s + j)
+
+-- 32: a row that names an area in this way (0 allocates, 1 uses, 2 inserts, 3 names none) is bad where this is known of the area (0 nothing, 1 it is allocated, 2 it was inserted)
+unfoldable pub bad_in : ℕ → ℕ → Bool
+bad_in how state = cond (eqb how 3) false (cond (eqb how 0) (not (eqb state 0)) (not (eqb state 1)))
+
+-- what is known of the area after such a row
+unfoldable pub state_next : ℕ → ℕ → ℕ
+state_next how state = cond (eqb how 0) 1 (cond (eqb how 2) 2 state)
 
 -- what the report says of directive row i, and what is known after it: contexts and areas of the rows kept
 pub record RowReported (s : List ℕ) (i : ℕ) (f : Fault) (contexts : List ℕ) (next : Cursor) (few links areas states : List ℕ) : Type 0 where

@@ -14,8 +14,8 @@ ghost use Rattle.clashes.specs.Clashes.{HoldsTables};
 ghost use Rattle.directive_check.specs.Record.{HoldsContexts, how_of, area_number};
 ghost use Rattle.directive_header.specs.Fields.{area_of};
 ghost use Rattle.area_table.specs.AreaTable.{Tree, HoldsAreas};
-ghost use Rattle.directive_row.specs.Row.{area_state, state_of, state_next};
-ghost use Rattle.directive_report.specs.Reported.{kept_to, RowReported, WordsTo};
+ghost use Rattle.directive_row.specs.Row.{area_state, state_of};
+ghost use Rattle.directive_report.specs.Reported.{bad_in, state_next, kept_to, RowReported, WordsTo};
 
 use directive_check::AreaName;
 use igvm_defs::{Arch, Fault};
@@ -89,7 +89,20 @@ fn state_of(
     state
 }
 
-// What is known of an area after a row that names it in this way.
+// 32: a row that names an area in this way, where this is known of the area.
+fn bad_in(how: u8, state: u8) -> bool
+    ensures { result ≡ bad_in how state }
+{
+    if how == 3 {
+        return false;
+    }
+    if how == 0 {
+        return state != area_table::NOTHING;
+    }
+    state != area_table::ALLOCATED
+}
+
+// What is known of the area after such a row.
 fn state_next(how: u8, state: u8) -> u8
     ensures { result ≡ state_next how state }
 {
@@ -195,7 +208,7 @@ fn report_row<'a>(
         tables,
         held,
         contexts,
-        directive_row::bad_in(name.how, state),
+        bad_in(name.how, state),
     );
     let fault = row.fault;
     let next = row.contexts;

@@ -1,3 +1,2 @@
 pub mod PlainLaws
 pub mod AreaRowLaws
-pub mod StateLaws

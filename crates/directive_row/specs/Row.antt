@@ -1,5 +1,5 @@
 -- When a directive row, from its kind and body, is in order.
-use Rattle.std.specs.Prelude.{ℕ, ◌≤◌, Bool, false, cond, not, ◌&&◌, ◌||◌, List, ◌≡◌, eqb, length, get_or}
+use Rattle.std.specs.Prelude.{ℕ, ◌≤◌, Bool, false, cond, ◌&&◌, ◌||◌, List, ◌≡◌, eqb, length, get_or}
 use Rattle.rows.specs.Rows.{Rows, any}
 use Rattle.le.specs.Le.{byte_at, le_at}
 use Rattle.igvm_defs.specs.declared.Arch.{Arch}
@@ -40,14 +40,6 @@ state_of earlier area = area_state (any (allocates area) earlier) (any (inserts 
 -- with one header more
 unfoldable pub state_after : Rows IgvmDirectiveHeader → IgvmDirectiveHeader → ℕ → ℕ
 state_after earlier h area = area_state (any (allocates area) earlier || allocates area h) (any (inserts area) earlier || inserts area h)
-
--- 32: a row that names an area in this way (0 allocates, 1 uses, 2 inserts, 3 names none) is bad where this is known of the area (0 nothing, 1 it is allocated, 2 it was inserted)
-unfoldable pub bad_in : ℕ → ℕ → Bool
-bad_in how state = cond (eqb how 3) false (cond (eqb how 0) (not (eqb state 0)) (not (eqb state 1)))
-
--- what is known of the area after such a row
-unfoldable pub state_next : ℕ → ℕ → ℕ
-state_next how state = cond (eqb how 0) 1 (cond (eqb how 2) 2 state)
 
 -- a row that names an area, after these directive rows
 pub record AreaRow (arch : Arch) (earlier : Rows IgvmDirectiveHeader) (kind : ℕ) (b few links areas states : List ℕ) : Type 0 where

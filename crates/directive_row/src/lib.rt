@@ -13,7 +13,7 @@ ghost use Rattle.rules.specs.Directives.{inside_table};
 ghost use Rattle.directive_header.specs.declared.IgvmDirectiveHeader.{IgvmDirectiveHeader};
 ghost use Rattle.area_table.specs.AreaTable.{Tree, HoldsAreas};
 ghost use Rattle.clashes.specs.Clashes.{HoldsTables};
-ghost use Rattle.directive_row.specs.Row.{VbsContext, PlainRow, AreaRow, NamedRow, state_of, bad_in};
+ghost use Rattle.directive_row.specs.Row.{VbsContext, PlainRow, AreaRow, NamedRow, state_of};
 
 // ---- a row's body
 
@@ -65,19 +65,6 @@ pub fn plain_row(kind: u32, b: &[u8], x64: bool, contexts: &mut [u32; 3]) -> boo
 }
 
 // ---- rows that name an area
-
-// 32: a row that names an area in this way, where this is known of the area.
-pub fn bad_in(how: u8, state: u8) -> bool
-    ensures { result ≡ bad_in how state }
-{
-    if how == 3 {
-        return false;
-    }
-    if how == 0 {
-        return state != area_table::NOTHING;
-    }
-    state != area_table::ALLOCATED
-}
 
 // 33: an area that no row named.
 fn parameter_area_row(

@@ -1,6 +1,6 @@
 -- Laws of lent bytes. A store past the end changes nothing, so only laws that read a byte ask for room.
 use native.Mathlib.Nat.{mod-eq_of_lt, zero-div}
-use Rattle.rows.{proofs.Kit.{ℕ, zero, suc, ◌+◌, ◌-◌, ◌*◌, ◌/◌, ◌%◌, ◌^◌, ◌≤◌, ◌<◌, add-zero, zero-add, not-suc-le-zero, le_of_suc-le-suc, dec_lt, arith, ◌≡◌, refl, sym, ap, ◌∙◌, Bool, true, cond, ◌&&◌, and-false, List, [], ◌∷◌, eqb, leb, ltb, length, get_or, set, List·getD-eq-default, eqb-true, leb-true, ltb-true, eq-eqb, ne_eqb, le-leb, lt-leb, lt-ltb, le-ltb}, proofs.Bools.{same_test, and_parts, cond_same}, proofs.BelowLaws.sum_cong}
+use Rattle.rows.{proofs.Kit.{ℕ, zero, suc, ◌+◌, ◌-◌, ◌*◌, ◌/◌, ◌%◌, ◌^◌, ◌≤◌, ◌<◌, add-zero, zero-add, not-suc-le-zero, le_of_suc-le-suc, dec_lt, arith, ◌≡◌, refl, sym, ap, ◌∙◌, Bool, true, cond, ◌&&◌, and-false, List, [], ◌∷◌, eqb, leb, ltb, length, get_or, set, get_or-eq_default, eqb-true, leb-true, ltb-true, eq-eqb, ne_eqb, le-leb, lt-leb, lt-ltb, le-ltb}, proofs.Bools.{same_test, and_parts, cond_same}, proofs.BelowLaws.sum_cong}
 use Rattle.le.{specs.Le.{byte_at, le_at, byte_of}, proofs.BytesLaws.bytes_say}
 use Rattle.lent.specs.Lent.{each_from, each, bytes_put, word_put, words_put, row_put, rows_put, numbers_put}
 
@@ -340,4 +340,4 @@ rows_keep count row b j l = go (dec_lt j (length b))
     go : Dec (j < length b) → get_or (rows_put count row b) j 0 ≡ get_or b j 0
     go (yes h) = from_at 0 _ b j h ∙ rw (zero-add, le-ltb j (64 * count) l)
     go (no h) =
-        rw (List·getD-eq-default (rows_put count row b) 0 {n = j} (rw (rows_length count row b) (omega arith)), List·getD-eq-default b 0 {n = j} (omega arith))
+        rw (get_or-eq_default (rows_put count row b) 0 {n = j} (rw (rows_length count row b) (omega arith)), get_or-eq_default b 0 {n = j} (omega arith))

@@ -1,7 +1,7 @@
 -- Words of a region: each below 2^64, and read back from a part of the lent bytes.
 use native.Mathlib.Nat.{mul-le-mul_left}
 use lib.Seq.{get_or-drop}
-use Rattle.rows.{proofs.Kit.{ℕ, zero, suc, ◌+◌, ◌*◌, ◌/◌, ◌%◌, ◌^◌, ◌≤◌, ◌<◌, pow-succ', ◌≡◌, ap, ◌∙◌, Bool, true, false, cond, List, Option, none, some, take, drop, get_or, get_or-take, List·getD-eq-default, length-take, eqb, dec_lt, arith}, specs.Below.{sum_below, nth_below}, specs.Rows.{Rows, row_at}, proofs.Bools.which, proofs.BelowLaws.{sum_cong}}
+use Rattle.rows.{proofs.Kit.{ℕ, zero, suc, ◌+◌, ◌*◌, ◌/◌, ◌%◌, ◌^◌, ◌≤◌, ◌<◌, pow-succ', ◌≡◌, ap, ◌∙◌, Bool, true, false, cond, List, Option, none, some, take, drop, get_or, get_or-take, get_or-eq_default, length-take, eqb, dec_lt, arith}, specs.Below.{sum_below, nth_below}, specs.Rows.{Rows, row_at}, proofs.Bools.which, proofs.BelowLaws.{sum_cong}}
 use Rattle.le.specs.Le.{byte_at, le_at}
 use Rattle.igvm_defs.{specs.Vtls.vtl_of, proofs.VtlLaws.vtl_below}
 use Rattle.initialization_header.{specs.declared.IgvmInitializationHeader.IgvmInitializationHeader, specs.Initializations.{initialization_of, guest_policy_of, cca_policy_of, relocatable_region_of, page_table_relocation_region_of}}
@@ -15,7 +15,7 @@ pub part_bytes : (n m : ℕ) (b : List ℕ) → Bytes b → Bytes (take n (drop 
 part_bytes n m b h j =
     elim (dec_lt j n) [
       | yes l ↦ rw (get_or-take n (drop m b) j 0 l, get_or-drop m b j 0) (h (m + j))
-      | no l ↦ rw (List·getD-eq-default (take n (drop m b)) 0 {n = j} (rw length-take (omega arith))) (omega arith)
+      | no l ↦ rw (get_or-eq_default (take n (drop m b)) 0 {n = j} (rw length-take (omega arith))) (omega arith)
     ]
 
 pub le_bound : (w : ℕ) (b : List ℕ) (o : ℕ) → Bytes b → le_at w b o < 256 ^ w

@@ -11,7 +11,7 @@ pub use native.Mathlib.Numerals.{add-one}
 pub use native.Mathlib.Omega.{arith}
 pub use lib.Bits.{bit_and, bit_or, and_shr, and_step}
 pub use lib.Dec.{T, eqb, leb, ltb}
-pub use lib.ListN.{length, get_or, set, take, drop, replicate, get_or-eq_default as List·getD-eq-default, length-append, length-drop, length-set, length-take}
+pub use lib.ListN.{length, get_or, set, take, drop, replicate, get_or-eq_default, length-append, length-drop, length-set, length-take}
 pub use lib.Seq.{get_or-set_other, get_or-set_same, get_or-take, take-suc, take-suc-set}
 pub use denote.Enum.Declared.{tag_of}
 pub use borrow.Author.Rules.{rules}

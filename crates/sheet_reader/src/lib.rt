@@ -1,5 +1,5 @@
 // The sheet reader keeps the sheet's bytes with the row reached and where that row's body starts; it hands back the body's part of the sheet.
-// The functions over it are thin and proved by hand. What they answer is computed by functions on a slice and numbers.
+// The functions over it are thin: what they answer is computed by functions on a slice and numbers.
 #![tactic(auto)]
 
 ghost use Rattle.std.specs.Prelude.{◌≡◌, ◌+◌, ◌*◌, ◌≤◌, ◌<◌, length, take, drop};

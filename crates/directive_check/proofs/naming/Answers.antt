@@ -5,9 +5,9 @@ use Rattle.directive_check.specs.Record.{how_named}
 use Rattle.directive_check.proofs.naming.Goals as goal
 
 -- a parameter's body has eight bytes at least
-parameter-least : (kind : ℕ) → is_parameter kind ≡ true → (kind_of kind).least ≡ 8
+parameter_least : (kind : ℕ) → is_parameter kind ≡ true → (kind_of kind).least ≡ 8
 unfolding kind_of spans
-parameter-least kind t =
+parameter_least kind t =
     let (a, b) = and_parts _ _ t in
     let l = leb-true 34 kind a in
     let u = leb-true kind 43 b in
@@ -24,7 +24,7 @@ returns-then-kind-eq33 c = let e = eq-eqb _ _ c.if-kind-eq33.true in (rw e, rw e
 pub u32_at-area-requires-then-is_parameter : goal.u32_at-area-requires-then-is_parameter
 unfolding kind_of spans
 u32_at-area-requires-then-is_parameter c =
-    let l = rw (parameter-least c.args.kind (sym c.is_parameter.ensures ∙ c.if-is_parameter.true)) at c.requires in
+    let l = rw (parameter_least c.args.kind (sym c.is_parameter.ensures ∙ c.if-is_parameter.true)) at c.requires in
     omega arith
 
 pub returns-then-is_parameter : goal.returns-then-is_parameter

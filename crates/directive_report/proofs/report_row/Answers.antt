@@ -1,7 +1,8 @@
 use Rattle.rows.proofs.Kit.{sym, ◌∙◌, arith, rules}
 use Rattle.sheet_headers.proofs.ListLaws.{at_directive, directive_header}
 use Rattle.area_table.proofs.AreaTableLaws.{holds_same}
-use Rattle.directive_row.{specs.Row.state_of, proofs.StateLaws.state_told}
+use Rattle.directive_row.specs.Row.{state_of}
+use Rattle.directive_report.proofs.AreaLaws.{state_told}
 use Rattle.directive_report.specs.Reported.{kept_to}
 use Rattle.directive_report.proofs.{DirectiveReport.{bad_row, row_told, areas_told}}
 use Rattle.directive_report.proofs.report_row.Goals as goal

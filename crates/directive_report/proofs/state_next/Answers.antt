@@ -1,5 +1,5 @@
 use Rattle.rows.proofs.Kit.{ne_eqb}
-use Rattle.directive_row.specs.Row.{state_next}
+use Rattle.directive_report.specs.Reported.{state_next}
 use Rattle.directive_report.proofs.state_next.Goals as goal
 
 pub returns-then-how-eq0 : goal.returns-then-how-eq0

@@ -1,4 +1,4 @@
-use Rattle.rows.proofs.Kit.{◌≤◌, sym, arith, List·getD-eq-default}
+use Rattle.rows.proofs.Kit.{◌≤◌, sym, arith, get_or-eq_default}
 use Rattle.answers.specs.Numbers.{number_of, verdict_numbers}
 use Rattle.numbers.proofs.verdict_number.Goals as goal
 
@@ -28,4 +28,4 @@ returns-in-5 c = rw c.in-5.is
 
 pub returns-in_default : goal.returns-in_default
 unfolding number_of
-returns-in_default c = let p : 6 ≤ c.args.which = omega arith in sym (List·getD-eq-default (verdict_numbers c.args.v) 0 {n = c.args.which} p)
+returns-in_default c = let p : 6 ≤ c.args.which = omega arith in sym (get_or-eq_default (verdict_numbers c.args.v) 0 {n = c.args.which} p)

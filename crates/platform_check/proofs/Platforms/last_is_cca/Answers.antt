@@ -4,13 +4,13 @@ use Rattle.platform_check.specs.{declared.Platforms.Platforms, Record.last_type_
 use Rattle.platform_check.proofs.Platforms.last_is_cca.Invariants.{type_at}
 use Rattle.platform_check.proofs.Platforms.last_is_cca.Goals as goal
 
-cca-type : (r : Platforms) (o : Option ℕ) → eqb (type_at r o) 6 ≡ passes (λ i. eqb (get_or r.types i 0) 6) o
-cca-type r none = refl
-cca-type r (some i) = refl
+cca_type : (r : Platforms) (o : Option ℕ) → eqb (type_at r o) 6 ≡ passes (λ i. eqb (get_or r.types i 0) 6) o
+cca_type r none = refl
+cca_type r (some i) = refl
 
 last_cca : (r : Platforms) (mask type : ℕ) → type ≡ type_at r (last_below r.count (λ j. eqb (get_or r.mask j 0) mask)) → eqb type 6 ≡ last_type_is_cca r mask
 unfolding last_type_is_cca
-last_cca r mask type e = rw e (cca-type r (last_below r.count (λ j. eqb (get_or r.mask j 0) mask)))
+last_cca r mask type e = rw e (cca_type r (last_below r.count (λ j. eqb (get_or r.mask j 0) mask)))
 
 pub loop-i-init : goal.loop-i-init
 unfolding last_below

@@ -1,6 +1,6 @@
 use Rattle.rows.proofs.Kit.{ne_eqb}
-use Rattle.directive_row.specs.Row.{bad_in}
-use Rattle.directive_row.proofs.bad_in.Goals as goal
+use Rattle.directive_report.specs.Reported.{bad_in}
+use Rattle.directive_report.proofs.bad_in.Goals as goal
 
 pub returns-then-how-eq3 : goal.returns-then-how-eq3
 unfolding bad_in
