@@ -1,4 +1,4 @@
-// The calls of a host, across C linkage. A call takes the sheet's bytes and returns number `which` of its answer, 0 where the answer has no such number; its
+// The calls of a host; crate igvm_c gives them C linkage. A call takes the sheet's bytes and returns number `which` of its answer, 0 where the answer has no such number; its
 // sibling puts all numbers of the answer as words into lent bytes, where they have room, and returns number 0.
 #![tactic(auto)]
 

@@ -188,7 +188,8 @@ fn replay_record<W: Write>(out: &mut W, one: &[u8]) -> io::Result<()>
     requires { 40 ≤ length one.now }
 {
     let mut space = [0u8; 4224];
-    let c = stored_calls::start(out, one, &mut space)?;
+    stored_calls::write_start(out, one, space.len())?;
+    let c = stored_calls::start(one, &mut space);
     let n = c.lent;
     write_answer(out, c, &one[40..], &mut space[..n])
 }
@@ -196,9 +197,9 @@ fn replay_record<W: Write>(out: &mut W, one: &[u8]) -> io::Result<()>
 fn replay<W: Write>(out: &mut W, s: &[u8]) -> io::Result<()> {
     let mut at = 0;
     while at < s.len() {
-        let n = stored_calls::record_length(out, s, at)?;
+        let n = stored_calls::record_length(s, at);
         if n < 40 {
-            return Ok(());
+            return out.write_all(b"a record that is not whole\n");
         }
         let end = at + n;
         replay_record(out, &s[at..end])?;
@@ -207,17 +208,25 @@ fn replay<W: Write>(out: &mut W, s: &[u8]) -> io::Result<()> {
     Ok(())
 }
 
-// The calls of the file of that name, of at most 524,288 bytes.
-fn replay_file<W: Write>(rt: &HostRuntime, out: &mut W, name: &str) -> io::Result<()> {
-    let mut space = vec![in rt.alloc(); 0u8; 524288]?;
-    let n = stored_calls::read_file(rt, out, name, &mut space)?;
-    replay(out, &space[..n])
+// The calls of the file of that name, of at most as many bytes as have room in `space`.
+fn replay_file<W: Write>(
+    rt: &HostRuntime,
+    out: &mut W,
+    name: &str,
+    space: &mut [u8],
+) -> io::Result<()> {
+    match stored_calls::read_file(rt, name, space) {
+        Ok(n) => replay(out, &space[..n]),
+        Err(_) => out.write_all(b"the file can't be opened\n"),
+    }
 }
 
 fn main(rt: HostRuntime) -> io::Result<()> {
+    // A file has at most 524,288 bytes.
+    let mut space = vec![in rt.alloc(); 0u8; 524288]?;
     let mut out = BufWriter::new(rt.alloc(), io::writer(&rt))?;
     for name in env::args(&rt)?.skip(1) {
-        replay_file(&rt, &mut out, name.as_str())?;
+        replay_file(&rt, &mut out, name.as_str(), &mut space)?;
     }
     out.flush()
 }

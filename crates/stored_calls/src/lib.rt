@@ -131,56 +131,56 @@ fn call_of(one: &[u8]) -> Call
     }
 }
 
-// The call of a record, and the line up to its numbers. The first bytes of `space` are what it lends.
-pub fn start<W: Write>(out: &mut W, one: &[u8], space: &mut [u8]) -> io::Result<Call>
+// The call of a record. The first bytes of `space` are what it lends; a call that lends more asks for nothing.
+pub fn start(one: &[u8], space: &mut [u8]) -> Call
     requires { 40 ≤ length one.now }
-    ensures prefix_len { IfOk result (λ c. (c.lent ≤ length space.new) × (c.lent ≡ length (take c.lent space.new))) }
-    ensures numbers_bound { IfOk result (λ c. c.numbers ≤ 11) }
-    ensures unwritten { OnErr result (length space.new ≡ length space.old) }
+    ensures prefix_len { (result.lent ≤ length space.new) × (result.lent ≡ length (take result.lent space.new)) }
+    ensures numbers_bound { result.numbers ≤ 11 }
 {
     fill(space);
+    let c = call_of(one);
+    if c.lent <= space.len() {
+        return c;
+    }
+    NO_CALL
+}
+
+// The line of a record up to the numbers of its answer, where the call has room for so many bytes to lend.
+pub fn write_start<W: Write>(out: &mut W, one: &[u8], room: usize) -> io::Result<()>
+    requires { 40 ≤ length one.now }
+{
     let c = call_of(one);
     write_answered(out, c)?;
     write_call(out, c)?;
     out.write_all(b":")?;
-    if c.lent <= space.len() {
-        return Ok(c);
+    if c.lent <= room {
+        return Ok(());
     }
-    out.write_all(b" lends more than 4224 bytes")?;
-    Ok(NO_CALL)
+    out.write_all(b" lends more than 4224 bytes")
 }
 
-// The length of the record that starts at `at`; 0, and a line that says so, if it is not whole.
-pub fn record_length<W: Write>(out: &mut W, s: &[u8], at: usize) -> io::Result<usize>
+// The length of the record that starts at `at`; 0 if it is not whole.
+pub fn record_length(s: &[u8], at: usize) -> usize
     requires { at ≤ length s.now }
-    ensures { IfOk result (λ n. at + n ≤ length s.now) }
+    ensures { at + result ≤ length s.now }
 {
     let left = s.len() - at;
     if 40 <= left {
         let sheet = le::u32_at(s, at + 36) as usize;
         if sheet <= left - 40 {
-            return Ok(40 + sheet);
+            return 40 + sheet;
         }
     }
-    out.write_all(b"a record that is not whole\n")?;
-    Ok(0)
+    0
 }
 
-// Reads the file of that name: how many bytes it has, at most those of `space`.
-pub fn read_file<W: Write>(
-    rt: &HostRuntime,
-    out: &mut W,
-    name: &str,
-    space: &mut [u8],
-) -> io::Result<usize>
+// Reads the file of that name: how many bytes it has, at most those of `space`. Where it can't be opened nothing is read.
+pub fn read_file(rt: &HostRuntime, name: &str, space: &mut [u8]) -> io::Result<usize>
     ensures ok { IfOk result (λ n. (n ≤ length space.new) × (n ≡ length (take n space.new))) }
-    ensures unwritten { OnErr result (length space.new ≡ length space.old) }
+    ensures unread { OnErr result (space.new ≡ space.old) }
 {
     match fs::open(rt, name) {
         Ok(mut file) => Ok(input::read_full(&mut file, space)),
-        Err(_) => {
-            out.write_all(b"the file can't be opened\n")?;
-            Ok(0)
-        }
+        Err(e) => Err(e),
     }
 }
