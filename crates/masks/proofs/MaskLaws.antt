@@ -288,7 +288,7 @@ one_bit_alone k m o h = alone k m (eqb-true (Count.ones m) 1 o) h
 pub bit_set : (k : ℕ) → has_bit (2 ^ k) k ≡ true
 bit_set k = rw (has_bit_lem, div_self (pow_pos k))
 
--- ---- firstMask
+-- ---- first_mask
 
 -- the bit at an index that was looked for, as a mask
 abbrev pub bit_at : Option ℕ → Option ℕ

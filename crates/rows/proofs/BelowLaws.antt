@@ -7,7 +7,7 @@ use Rattle.rows.proofs.{Kit.{◌≡◌, refl, ap₂, ◌∙◌, Bool, true, fals
 pub top : {i n : ℕ} → i < suc n → (i ≡ n) ⊎ (i < n)
 top h = eq-or-lt_of_le (le_of_suc-le-suc h)
 
--- ---- anyBelow
+-- ---- any_below
 
 pub any_below_lem : (n : ℕ) (p : ℕ → Bool) (i : ℕ) → i < n → p i ≡ true → any_below n p ≡ true
 unfolding any_below
@@ -35,7 +35,7 @@ unfolding any_below
 any_same_tests zero p q h = refl
 any_same_tests (suc n) p q h = rw (any_same_tests n p q (λ i l. h i (omega arith)), h n (omega arith))
 
--- ---- firstBelow
+-- ---- first_below
 
 later_none : (o : Option ℕ) (b : Bool) (n : ℕ) → or_later o (cond b (some n) none) ≡ none → (o ≡ none) × (b ≡ false)
 later_none none true n h = absurd (false≢true (cc))
@@ -83,7 +83,7 @@ unfolding first_below
 first_same_tests zero p q h = refl
 first_same_tests (suc n) p q h = rw (h n (omega arith), first_same_tests n p q (λ i l. h i (omega arith)))
 
--- ---- lastBelow
+-- ---- last_below
 
 -- index i passes, and none after it
 abbrev pub LastAt : ℕ → (ℕ → Bool) → ℕ → Type 0
@@ -119,7 +119,7 @@ unfolding last_below
 last_same_tests zero p q h = refl
 last_same_tests (suc n) p q h = rw (last_same_tests n p q (λ i l. h i (omega arith)), h n (omega arith))
 
--- ---- sumBelow
+-- ---- sum_below
 
 pub sum_more : (n : ℕ) (f : ℕ → ℕ) → sum_below (n + 1) f ≡ sum_below n f + f n
 unfolding sum_below
@@ -174,7 +174,7 @@ sum_le (suc n) m f g to below one_to_one le =
     (λ i l. rw (ne_eqb (to i) (to n) (off i l)) (le i (omega arith))) in
     omega (arith, sum_out m (to n) g (below n (omega arith)), le n (omega arith))
 
--- ---- countBelow
+-- ---- count_below
 
 pub count_more : (n : ℕ) (p : ℕ → Bool) → count_below (n + 1) p ≡ count_below n p + cond (p n) 1 0
 count_more n p = sum_more n (λ i. cond (p i) 1 0)
@@ -203,7 +203,7 @@ count_le n p = omega (arith, sum_bound n (λ i. cond (p i) 1 0) 1 (λ i l. elim 
 pub count_same_tests : (n : ℕ) (p q : ℕ → Bool) → ((i : ℕ) → i < n → p i ≡ q i) → count_below n p ≡ count_below n q
 count_same_tests n p q h = sum_cong n (λ i. cond (p i) 1 0) (λ i. cond (q i) 1 0) (λ i l. rw (h i l))
 
--- ---- nthBelow
+-- ---- nth_below
 
 pub nth_number : (n : ℕ) (p : ℕ → Bool) (i : ℕ) → i < n → p i ≡ true → nth_below n p (count_below i p) ≡ some i
 unfolding nth_below
