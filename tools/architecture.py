@@ -14,7 +14,7 @@ ROOT = Path(__file__).resolve().parent.parent
 CRATES = ROOT / "crates"
 PAGE = ROOT / "docs" / "ARCHITECTURE.md"
 START, END = "<!-- levels: tools/architecture.py --write -->", "<!-- end of levels -->"
-KIT = {"io", "os", "libc", "check", "bytes"}
+KIT = {"check"}
 
 
 def listed():

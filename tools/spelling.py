@@ -2,7 +2,7 @@
 """Spells the repository's own definitions and lemmas as words in snake case: in crates/, in must-fail edits, and between backticks in pages and comments.
 
 usage: spelling.py table     prints the table of names, made from what the crates declare
-       spelling.py turn      rewrites the files by tools/spelling.tsv
+       spelling.py turn      rewrites the files by tools/spelling.tsv: once, on the text that port.py left. A second time would take definitions for lemmas
        spelling.py together  prints names that would fall together in a file
 """
 
