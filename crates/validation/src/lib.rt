@@ -41,6 +41,7 @@ struct Start {
 }
 
 // Behind the directive rows in order, from the first on, however many areas they name.
+#[inline(never)]
 fn past_in_order(s: &[u8], first: usize, end: usize, x64: bool, regions: RelocRegions) -> Start
     requires readable { Readable limits s.now × (first ≡ first_directive s.now) × (end ≡ row_count (head_of s.now)) × (x64 ≡ is_x64 (sheet_headers s.now).arch) }
     requires holds_regions { HoldsRegions regions (sheet_headers s.now).initializations }
