@@ -6,7 +6,9 @@ use Rattle.sheet_headers.{specs.Headers.sheet_headers, proofs.HeaderLaws.sheet_c
 use Rattle.rules.{specs.Verdict.{directive_faults, platform_faults, initialization_faults, platforms_refusal, directives_refusal}, proofs.Acceptance.{platforms_say, initializations_say, headers_say}}
 use Rattle.contexts.specs.Contexts.{any_lacks}
 use Rattle.by_start.specs.ByStart.{ByStart}
-use Rattle.initialization_check.{specs.declared.RelocRegions.RelocRegions, specs.Record.{any_region, regions_in, HoldsRows}}
+use Rattle.reloc_regions.specs.declared.RelocRegions.{RelocRegions}
+use Rattle.by_start.specs.declared.KeptRegions.{KeptRegions}
+use Rattle.initialization_check.specs.Record.{any_region, HoldsRows}
 use Rattle.directive_check.{specs.Record.{HoldsContexts, lacks_context}, proofs.DirectiveRecordLaws.holds_no_contexts}
 use Rattle.directive_pass.proofs.DirectivePass.{directives_last}
 use Rattle.platform_accept.specs.Accepted.{PlatformsAccepted, HoldsCca}
@@ -36,42 +38,39 @@ platforms_none s c cca a l p =
     ((platforms_say f).1 ((none_any f.platforms.count (λ i. is_fault (platform_faults f i))).0 (rw e at a.good), omega arith), rw e at a.holds)
 
 -- the initialization rows
-pub initializations_none : (s : List ℕ) (held : RelocRegions) (numbers next : List ℕ) (c : Cursor) → InitializationsAccepted s held numbers next c
-    → (head_of s).platforms + (head_of s).initializations ≤ c.row → is_refusal (platforms_refusal (sheet_headers s)) ≡ false
-    → ListsAccepted s held c × HoldsRows (head_of s).platforms numbers held (sheet_headers s).initializations × ByStart next held.gpa held.count
-initializations_none s held numbers next c a l p =
+pub initializations_none : (s : List ℕ) {N M : ℕ} (kept : KeptRegions N M) (c : Cursor) → InitializationsAccepted s kept.regions kept.rows kept.order.next c
+    → (head_of s).platforms + (head_of s).initializations ≤ c.row → is_refusal (platforms_refusal (sheet_headers s)) ≡ false → ListsAccepted s kept c
+initializations_none s kept c a l p =
     let f = sheet_headers s in let high = a.high in let n = (sheet_counts s).initializations in
-    let e : c.row - (head_of s).platforms ≡ f.initializations.count = omega arith in (
-      record {
-        read = a.read;
-        row = omega arith;
-        platforms = p;
-        initializations = (initializations_say f).1 ((none_any f.initializations.count (λ i. is_fault (initialization_faults f i))).0 (rw e at a.good));
-        holds = rw e at a.holds;
-      },
-      rw e at a.rows,
-      a.order,
-    )
+    let e : c.row - (head_of s).platforms ≡ f.initializations.count = omega arith in
+    record {
+      read = a.read;
+      row = omega arith;
+      platforms = p;
+      initializations = (initializations_say f).1 ((none_any f.initializations.count (λ i. is_fault (initialization_faults f i))).0 (rw e at a.good));
+      holds = rw e at a.holds;
+      rows = rw e at a.rows;
+      order = a.order;
+    }
 
 -- the directive rows, and 34
-pub all_none : (s masks gpas sizes vps vtls : List ℕ) (tables : List Bool) (n : ℕ) (numbers next contexts : List ℕ) (from c : Cursor)
-    → ListsAccepted s (regions_in masks gpas sizes vps vtls tables n) from → DirectivesAccepted s c contexts → row_count (head_of s) ≤ c.row → length s ≤ c.at
-    → length contexts ≡ 3 → any_lacks masks vps vtls n contexts ≡ false → HoldsRows (head_of s).platforms numbers (regions_in masks gpas sizes vps vtls tables n) (sheet_headers s).initializations
-    → ByStart next gpas n → RowsAccepted s (regions_in masks gpas sizes vps vtls tables n) numbers next contexts
+pub all_none : (s : List ℕ) {N M : ℕ} (kept : KeptRegions N M) (contexts : List ℕ) (from c : Cursor)
+    → ListsAccepted s kept from → DirectivesAccepted s c contexts → row_count (head_of s) ≤ c.row → length s ≤ c.at → length contexts ≡ 3
+    → any_lacks kept.regions.mask kept.regions.vp_index kept.regions.vtl kept.regions.count contexts ≡ false → RowsAccepted s kept.regions kept.rows kept.order.next contexts
 unfolding lacks_context
-all_none s masks gpas sizes vps vtls tables n numbers next contexts from c lists a l whole three lacks rows order =
-    let f = sheet_headers s in let held = regions_in masks gpas sizes vps vtls tables n in let high = a.read.high in let low = a.low in
+all_none s kept contexts from c lists a l whole three lacks =
+    let f = sheet_headers s in let held = kept.regions in let high = a.read.high in let low = a.low in
     let k = (sheet_counts s).directives in
     let e : c.row - first_directive s ≡ f.directives.count = omega arith in
     let contexts-held : HoldsContexts contexts f.directives = rw e at a.holds in
     let none : is_fault (refuse (any_region (lacks_context contexts) held) (fault 34 0) no_fault) ≡ false = rw lacks no_fault_lem in
     let directives : is_refusal (directives_refusal f) ≡ false =
-    rw (← directives_last f held contexts lists.holds contexts-held (fault_end (f.platforms.count + f.initializations.count) f.directives.count (directive_faults f) (rw e at a.good))) (row_refusal_lem 0 (refuse (any_region (lacks_context contexts) held) (fault 34 0) no_fault) ∙ none)
+    rw (directives_last f held contexts lists.holds contexts-held (fault_end (f.platforms.count + f.initializations.count) f.directives.count (directive_faults f) (rw e at a.good))) (row_refusal_lem 0 (refuse (any_region (lacks_context contexts) held) (fault 34 0) no_fault) ∙ none)
     in
     record {
       read = rows_read s c a.read l whole;
       headers = (headers_say f).1 (lists.platforms, lists.initializations, directives);
-      kept = record { regions = lists.holds; rows = rows; order = order; masks = contexts-held; vtls = three };
+      kept = record { regions = lists.holds; rows = lists.rows; order = lists.order; masks = contexts-held; vtls = three };
     }
 
 -- before the first directive row nothing is passed

@@ -30,6 +30,7 @@ pub fn is_multiple(x: u64, a: u64) -> bool
 }
 
 // On a page boundary. The remainder by this constant is compiled to a test of its low bits.
+#[tactic(auto, unfolding(crate::specs::Addresses::is_multiple))]
 pub fn on_page(x: u64) -> bool
     ensures { result ≡ on_page x }
 {
@@ -56,12 +57,14 @@ pub fn ends_by(b: u64, n: u64, m: u64) -> bool
     n <= m - b
 }
 
+#[tactic(auto, unfolding(crate::specs::Addresses::contains))]
 pub fn contains(base: u64, size: u64, gpa: u64) -> bool
     ensures { result ≡ contains base size gpa }
 {
     (base <= gpa) & before_end(gpa, base, size)
 }
 
+#[tactic(auto, unfolding(crate::specs::Addresses::meets))]
 pub fn meets(base: u64, size: u64, base2: u64, size2: u64) -> bool
     ensures { result ≡ meets base size base2 size2 }
 {
@@ -71,6 +74,7 @@ pub fn meets(base: u64, size: u64, base2: u64, size2: u64) -> bool
     before_end(base, base2, size2) & (base2 - base < size)
 }
 
+#[tactic(auto, unfolding(crate::specs::Addresses::ends_beyond))]
 pub fn ends_beyond(base: u64, size: u64) -> bool
     ensures { result ≡ ends_beyond base size }
 {

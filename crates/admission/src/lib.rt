@@ -1,9 +1,8 @@
 // From the bytes of an input to the line that `admit` writes.
 #![tactic(auto)]
 
-ghost use Rattle.std.specs.Prelude.{◌≡◌, ◌≤◌};
+ghost use Rattle.std.specs.Prelude.{◌≡◌};
 ghost use Rattle.sheet.specs.Head.{limits};
-ghost use Rattle.line.specs.Text.{text_of};
 ghost use Rattle.admission.specs.Admission.{admit_of, admit_line};
 
 use answers::Verdict;
@@ -33,7 +32,7 @@ fn verdict(s: &[u8]) -> Verdict
 }
 
 pub fn admit_line(s: &[u8]) -> Line
-    ensures { (text_of result ≡ admit_line limits s.now) × (result.len ≤ 96) }
+    ensures { result ≡ admit_line limits s.now }
 {
     line::line_of(verdict(s))
 }

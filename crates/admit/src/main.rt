@@ -27,7 +27,5 @@ fn main(rt: HostRuntime) -> io::Result<()> {
     let mut reader = rt.stdin();
     let n = read_input(&mut reader, &mut input);
     let line = admission::admit_line(&input[..n]);
-    let text = line.bytes;
-    let len = line.len;
-    io::writer(&rt).write_all(&text[..len])
+    io::writer(&rt).write_all(line.as_bytes())
 }

@@ -9,9 +9,7 @@ fn write_line<R: Read, W: Write>(file: &mut R, out: &mut W) -> io::Result<()> {
     let mut input = [0u8; 65537];
     let n = input::read_full(file, &mut input);
     let line = admission::admit_line(&input[..n]);
-    let text = line.bytes;
-    let len = line.len;
-    out.write_all(&text[..len])
+    out.write_all(line.as_bytes())
 }
 
 fn admit_named<W: Write>(rt: &HostRuntime, out: &mut W, name: &str) -> io::Result<()> {

@@ -1,7 +1,7 @@
 -- Laws of the table of areas: where an area's place is, what a new node changes, and the empty table.
 use lib.ListN.{length-replicate}
 use Rattle.rows.{proofs.Kit.{ℕ, zero, suc, ◌+◌, ◌*◌, ◌-◌, ◌/◌, ◌%◌, ◌≤◌, ◌<◌, dec_lt, ℕ_discrete, arith, true, false, cond, List, ◌≢◌, inl, inr, ◌≡◌, refl, sym, ap, ◌∙◌, eqb, length, get_or, set, replicate, length-set, get_or-set_same, get_or-set_other, lt-ltb, le-ltb, eq-eqb, ne_eqb, eqb-true}, proofs.Bools.{which, not_both, or_left, or_right, or_cases, or_both_false}, proofs.BelowLaws.zeros}
-use Rattle.area_table.specs.AreaTable.{root, ends, child, find_from, place_of, state_at, state_in, Tree, HoldsAreas}
+use Rattle.area_table.specs.AreaTable.{root, ends, child, find_from, place_of, PlaceOf, state_at, state_in, Tree, HoldsAreas}
 
 root_small : (x : ℕ) → root x < 1024
 unfolding root
@@ -27,11 +27,11 @@ module _ (links states : List ℕ) (p : ℕ) where
   state_full m e c = rw (ne_eqb p 1024 m, eq-eqb _ _ e, le-ltb (get_or links 1024 0 + 1) (length states) c)
 
   -- where the table can tell, the area has a place
-  place_told : state_at links states p ≢ 3 → p ≢ 1024
+  pub place_told : state_at links states p ≢ 3 → p ≢ 1024
   place_told n e = n (state_none e)
 
   -- where that is empty, another node can be made
-  room_told : state_at links states p ≢ 3 → get_or links p 0 ≡ 0 → get_or links 1024 0 + 1 < length states
+  pub room_told : state_at links states p ≢ 3 → get_or links p 0 ≡ 0 → get_or links 1024 0 + 1 < length states
   room_told n e =
       elim (dec_lt (get_or links 1024 0 + 1) (length states)) [ yes l ↦ l | no l ↦ absurd (n (state_full (place_told n) e (omega arith))) ]
 
@@ -83,10 +83,10 @@ module _ (links areas : List ℕ) (x : ℕ) where
   unfolding find_from
   find_step n rest p e = rw e
 
-  pub find_on : (n rest p : ℕ) → 0 < n → ends links areas x p ≡ false
-      → find_from links areas x n rest p ≡ find_from links areas x (n - 1) (rest / 2) (child links rest p)
-  find_on zero rest p z e = absurd (omega arith)
-  find_on (suc n) rest p z e = let q : suc n - 1 ≡ n = omega arith in rw q (find_step n rest p e)
+  -- the look after n others
+  pub find_look : (n rest p : ℕ) → n < 33 → ends links areas x p ≡ false
+      → find_from links areas x (33 - n) rest p ≡ find_from links areas x (33 - (n + 1)) (rest / 2) (child links rest p)
+  find_look n rest p l e = let q : 33 - n ≡ suc (33 - (n + 1)) = omega arith in rw q (find_step (33 - (n + 1)) rest p e)
 
   pub find_zero : (rest p : ℕ) → find_from links areas x 0 rest p ≡ 1024
   unfolding find_from
@@ -245,24 +245,15 @@ holds_same h e = record { few_size = h.few_size; tree = h.tree; told = λ x n. h
 pub tree_link : {links areas states : List ℕ} → Tree links areas states → (p : ℕ) → get_or links p 0 < length states
 tree_link t p = omega (arith, t.room, t.counted p)
 
--- what is asked of a place and the arrays, to tell what is known by it
-pub state_asks : {links areas states : List ℕ} → Tree links areas states → {p : ℕ} → p < length links
-    → ((1024 < length links) × (p < length links) × (length states ≤ 65536)) × ((get_or links p 0 < length states) × (get_or links 1024 0 < length states))
-state_asks t {p} l =
-    let (long, _, small) = t.sizes in
-    let room = t.room in
-    ((omega arith, l, small), (tree_link t p, room))
-
 -- a child of a node, or a root, is a place of the arrays
 pub child_place : {links areas states : List ℕ} → Tree links areas states → (p : ℕ) → Child (get_or links 1024 0) p → p < length links
 child_place t p h =
     let (l, _, _) = t.sizes in
     omega (arith, l, t.room, h.low)
 
--- a place of which the table can tell is an area's, and where it is empty there is room for a node
-pub told_place : (links states : List ℕ) (r v : ℕ) → v ≡ state_at links states r → v ≢ 3
-    → (r ≢ 1024) × (get_or links r 0 ≡ 0 → get_or links 1024 0 + 1 < length states)
-told_place links states r v s n = let t : state_at links states r ≢ 3 = λ q. n (s ∙ q) in (place_told links states r t, room_told links states r t)
+-- what the arrays tell, they hold
+pub holds_self : {few links areas states : List ℕ} → length few ≡ 1024 → Tree links areas states → HoldsAreas few links areas states (state_in few links areas states)
+holds_self size tree = record { few_size = size; tree = tree; told = λ x n. refl }
 
 module _ (few links areas states : List ℕ) (f : ℕ → ℕ) (h : HoldsAreas few links areas states f) (a v : ℕ) where
   -- one area has a new state, and of the others that can be told the same is known
@@ -303,9 +294,11 @@ module _ (few links areas states : List ℕ) (f : ℕ → ℕ) (h : HoldsAreas f
             e ∙ old x m (λ t. n (e ∙ t)) ∙ sym (state_large few links areas states x (omega arith))
       ])
 
-  pub holds_put_node : 1024 ≤ a → (p : ℕ) → p ≡ place_of links areas a → p ≢ 1024 → get_or links p 0 ≢ 0
+  pub holds_put_node : 1024 ≤ a → (p : ℕ) → PlaceOf links areas a p → get_or links p 0 ≢ 0
       → HoldsAreas few links areas (set states (get_or links p 0) v) (λ x. cond (eqb x a) v (f x))
-  holds_put_node l p e b n =
+  holds_put_node l p o n =
+      let e = o.is in
+      let b = o.other in
       let tree = h.tree in
       let sizes = tree.sizes in
       let room = tree.room in
@@ -334,10 +327,12 @@ module _ (few links areas states : List ℕ) (f : ℕ → ℕ) (h : HoldsAreas f
         told = told_large links areas states' l new other;
       }
 
-  pub holds_put_new : 1024 ≤ a → (p : ℕ) → p ≡ place_of links areas a → p ≢ 1024 → get_or links p 0 ≡ 0 → get_or links 1024 0 + 1 < length states
+  pub holds_put_new : 1024 ≤ a → (p : ℕ) → PlaceOf links areas a p → get_or links p 0 ≡ 0 → get_or links 1024 0 + 1 < length states
       → HoldsAreas few (set (set links p (get_or links 1024 0 + 1)) 1024 (get_or links 1024 0 + 1)) (set areas (get_or links 1024 0 + 1) a)
       (set states (get_or links 1024 0 + 1) v) (λ x. cond (eqb x a) v (f x))
-  holds_put_new l p e b z room =
+  holds_put_new l p o z room =
+      let e = o.is in
+      let b = o.other in
       let tree = h.tree in
       let sizes = tree.sizes in
       let c = get_or links 1024 0 in

@@ -1,1 +1,2 @@
 pub mod AreaTableLaws
+pub mod StateLaws

@@ -24,6 +24,11 @@ find_from links areas area (suc n) rest p = cond (ends links areas area p) p (fi
 unfoldable pub place_of : List ℕ → List ℕ → ℕ → ℕ
 place_of links areas area = find_from links areas area 33 area (root area)
 
+-- p is the area's place, or the empty one that its node would take
+pub record PlaceOf (links areas : List ℕ) (area p : ℕ) : Type 0 where
+  pub is : p ≡ place_of links areas area
+  pub other : p ≢ 1024
+
 -- what is known of an area by its place: where it is empty, nothing, as long as another node can be made
 unfoldable pub state_at : List ℕ → List ℕ → ℕ → ℕ
 state_at links states p =

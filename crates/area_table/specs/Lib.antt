@@ -1,1 +1,3 @@
 pub mod AreaTable
+pub mod States
+pub mod Table

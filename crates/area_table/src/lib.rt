@@ -1,19 +1,19 @@
-// What is known of each area, by its index (specs/AreaTable.antt): small indexes have a place of their own, others are found in a tree by their bits. The
-// arrays of the tree are lent as slices, so that a table has the size that a sheet asks for.
+// What is known of each area, by its index (specs/AreaTable.antt): small indexes have a place of their own, others are found in a tree by their bits. A table
+// has as many nodes as a sheet asks for.
 #![tactic(auto)]
 
-ghost use Rattle.std.specs.Prelude.{cond, ◌&&◌, ◌≢◌, ◌≡◌, ℕ, ◌<◌, ◌≤◌, eqb, length, get_or};
-ghost use Rattle.area_table.specs.AreaTable.{root, place_of, state_at, state_in, Tree, HoldsAreas};
+ghost use Rattle.std.specs.Prelude.{cond, ◌&&◌, ◌≢◌, ◌≡◌, ℕ, ◌+◌, ◌*◌, ◌<◌, ◌≤◌, eqb, length, get_or, MatchOption};
+ghost use Rattle.area_table.specs.AreaTable.{root, place_of, state_at, PlaceOf, Tree};
+ghost use Rattle.area_table.specs.States.{state_code, state_told};
 
 // Areas below this have a place of their own.
-pub const FEW: usize = 1024;
+const FEW: usize = 1024;
 
-// The areas that a tiny table has nodes for, and a small one. A large one has a node for each directive row that a sheet may have.
+// The areas that a tiny table has nodes for.
 pub const TINY: usize = 256;
 
-pub const SMALL: usize = 1024;
-
-// The nodes of each. They are numbered from 1 on; node 0 is none.
+// The nodes of a tiny table, of a small one, and of a large one, which has one for each directive row that a sheet may have. They are numbered from 1 on; node 0 is
+// none.
 pub const TINY_NODES: usize = 257;
 
 pub const SMALL_NODES: usize = 1025;
@@ -33,17 +33,49 @@ const COUNT: usize = 1024;
 // How often a walk looks at a place: at the root, and once after each bit.
 const LOOKS: u32 = 33;
 
-// Of an area of which nothing is known.
-pub const NOTHING: u8 = 0;
+// What is known of an area.
+#[derive(Clone, Copy, PartialEq, Eq)]
+pub enum AreaState {
+    Nothing,
+    Allocated,
+    Inserted,
+}
 
-// Of an area that is allocated.
-pub const ALLOCATED: u8 = 1;
+impl AreaState {
+    // The number that stands for it in a table.
+    fn code(self) -> u8
+        ensures { result ≡ state_code self }
+    {
+        match self {
+            AreaState::Nothing => 0,
+            AreaState::Allocated => 1,
+            AreaState::Inserted => 2,
+        }
+    }
 
-// Of an area that was inserted.
-pub const INSERTED: u8 = 2;
+    // What a number of a table stands for.
+    #[tactic(auto, unfolding(crate::specs::States::state_told))]
+    fn of(code: u8) -> Option<AreaState>
+        ensures { result ≡ state_told code }
+    {
+        match code {
+            0 => Some(AreaState::Nothing),
+            1 => Some(AreaState::Allocated),
+            2 => Some(AreaState::Inserted),
+            _ => None,
+        }
+    }
+}
 
-// Of an area of which the table can't tell.
-pub const UNTOLD: u8 = 3;
+// What is known of the areas below FEW, as numbers: an array of bytes is cleared at once. The places for nodes, and of each node its area and what is known of it.
+#[derive(Drop)]
+pub struct AreaTable<const LINKS: usize, const NODES: usize> {
+    few: [u8; FEW],
+    links: [u16; LINKS],
+    areas: [u32; NODES],
+    states: [u8; NODES],
+    ghost tree: { Tree links areas states },
+}
 
 // The root for an area: the high ten bits of the low word of a product.
 fn root_of(area: u32) -> usize
@@ -52,94 +84,105 @@ fn root_of(area: u32) -> usize
     ((area as u64) * 2654435769 % 4294967296 / 4194304) as usize
 }
 
-// The place of an area, or the empty one that its node would take; COUNT where no look finds it.
-fn place_of(links: &[u16], areas: &[u32], states: &[u8], area: u32) -> usize
-    requires { Tree links.now areas.now states.now }
-    ensures { (result ≡ place_of links.now areas.now area) × (result < length links.now) }
-{
-    let mut p = root_of(area);
-    let mut rest = area;
-    let mut left = LOOKS;
-    while 0 < left {
-        let k = links[p] as usize;
-        if (k == 0) | (areas[k] == area) {
-            return p;
+impl<const LINKS: usize, const NODES: usize> AreaTable<LINKS, NODES> {
+    ghost use Rattle.area_table.specs.Table.{state_by, Knows};
+
+    // A table in which nothing is known of any area.
+    pub fn new() -> AreaTable<LINKS, NODES>
+        requires { (LINKS ≡ 1024 + 2 * NODES) × (0 < NODES) × (NODES ≤ 65536) }
+        ensures { Knows result (λ _. 0) }
+    {
+        AreaTable {
+            few: [0; FEW],
+            links: [0; LINKS],
+            areas: [0; NODES],
+            states: [0; NODES],
         }
-        p = 1024 + 2 * k + (rest % 2) as usize;
-        rest = rest / 2;
-        left -= 1;
     }
-    COUNT
-}
 
-// What is known of an area by its place.
-fn state_at(links: &[u16], states: &[u8], p: usize) -> u8
-    requires in_bounds { (1024 < length links.now) × (p < length links.now) × (length states.now ≤ 65536) }
-    requires p_in_bounds { (get_or links.now p 0 < length states.now) × (get_or links.now 1024 0 < length states.now) }
-    ensures { result ≡ state_at links.now states.now p }
-{
-    if p == COUNT {
-        return UNTOLD;
+    // The place of an area, or the empty one that its node would take; none where no look finds it.
+    fn place_of(&self, area: u32) -> Option<usize>
+        ensures { MatchOption result (place_of self.now.links self.now.areas area ≡ 1024) (λ p. PlaceOf self.now.links self.now.areas area p × (p < LINKS)) }
+    {
+        let mut p = root_of(area);
+        let mut rest = area;
+        for _looked in 0..LOOKS {
+            let k = self.links[p] as usize;
+            if (k == 0) | (self.areas[k] == area) {
+                return Some(p);
+            }
+            p = 1024 + 2 * k + (rest % 2) as usize;
+            rest = rest / 2;
+        }
+        None
     }
-    let k = links[p] as usize;
-    if k != 0 {
-        return states[k];
-    }
-    let count = links[COUNT];
-    if (count as usize) + 1 < states.len() {
-        return NOTHING;
-    }
-    UNTOLD
-}
 
-// What is known of an area.
-pub fn state_of(few: &[u8; FEW], links: &[u16], areas: &[u32], states: &[u8], area: u32) -> u8
-    requires { Tree links.now areas.now states.now }
-    ensures { result ≡ state_in few.now links.now areas.now states.now area }
-{
-    let a = area as usize;
-    if a < FEW {
-        return few[a];
+    // What is known of an area by its place.
+    fn state_at(&self, p: usize) -> Option<AreaState>
+        requires { (p < LINKS) × (p ≢ 1024) }
+        ensures { result ≡ state_told (state_at self.now.links self.now.states p) }
+    {
+        let k = self.links[p] as usize;
+        if k != 0 {
+            return AreaState::of(self.states[k]);
+        }
+        if (self.links[COUNT] as usize) + 1 < NODES {
+            return Some(AreaState::Nothing);
+        }
+        None
     }
-    state_at(links, states, place_of(links, areas, states, area))
-}
 
-// Where the area is in the first of two states, it is in the second from now on, and of every other area the same is known as before. Else nothing changes.
-pub fn change(
-    few: &mut [u8; FEW],
-    links: &mut [u16],
-    areas: &mut [u32],
-    states: &mut [u8],
-    area: u32,
-    from: u8,
-    to: u8,
-) -> bool
-    requires { Tree links.old areas.old states.old × (from ≢ 3) }
-    ensures value { result ≡ eqb (state_in few.old links.old areas.old states.old area) from }
-    ensures by_index { (f : ℕ → ℕ) → HoldsAreas few.old links.old areas.old states.old f → HoldsAreas few.new links.new areas.new states.new (λ x. cond (result && eqb x area) to (f x)) }
-{
-    let a = area as usize;
-    if a < FEW {
-        if few[a] != from {
+    // What is known of an area, where the table can tell.
+    pub fn state_of(&self, area: u32) -> Option<AreaState>
+        ensures { result ≡ state_told (state_by self.now area) }
+    {
+        let a = area as usize;
+        if a < FEW {
+            return AreaState::of(self.few[a]);
+        }
+        let p = self.place_of(area)?;
+        self.state_at(p)
+    }
+
+    // The next node is the area's, and the empty place p is to it.
+    fn add(&mut self, p: usize, area: u32, state: AreaState)
+        requires place { PlaceOf self.old.links self.old.areas area p × (p < LINKS) × (1024 ≤ area) }
+        requires empty { (get_or self.old.links p 0 ≡ 0) × (get_or self.old.links 1024 0 + 1 < NODES) }
+        ensures { (f : ℕ → ℕ) → Knows self.old f → Knows self.new (λ x. cond (eqb x area) (state_code state) (f x)) }
+    {
+        let m = self.links[COUNT] + 1;
+        let n = m as usize;
+        self.areas[n] = area;
+        self.states[n] = state.code();
+        self.links[p] = m;
+        self.links[COUNT] = m;
+    }
+
+    // Where the area is in the first of two states, it is in the second from now on, and of every other area the same is known as before. Else nothing changes.
+    pub fn change(&mut self, area: u32, from: AreaState, to: AreaState) -> bool
+        ensures value { result ≡ eqb (state_by self.old area) (state_code from) }
+        ensures by_index { (f : ℕ → ℕ) → Knows self.old f → Knows self.new (λ x. cond (result && eqb x area) (state_code to) (f x)) }
+    {
+        let a = area as usize;
+        if a < FEW {
+            if self.few[a] != from.code() {
+                return false;
+            }
+            self.few[a] = to.code();
+            return true;
+        }
+        let Some(p) = self.place_of(area) else {
+            return false;
+        };
+        if self.state_at(p) != Some(from) {
             return false;
         }
-        few[a] = to;
-        return true;
+        let k = self.links[p] as usize;
+        if k != 0 {
+            self.states[k] = to.code();
+        } else {
+            self.add(p, area, to);
+        }
+        true
     }
-    let p = place_of(links, areas, states, area);
-    if state_at(links, states, p) != from {
-        return false;
-    }
-    let k = links[p] as usize;
-    if k != 0 {
-        states[k] = to;
-        return true;
-    }
-    let m = links[COUNT] + 1;
-    let n = m as usize;
-    areas[n] = area;
-    states[n] = to;
-    links[p] = m;
-    links[COUNT] = m;
-    true
 }

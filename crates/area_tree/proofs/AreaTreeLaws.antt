@@ -73,9 +73,9 @@ module _ (xs : List ℕ) (x : ℕ) where
   unfolding find_from
   find_step n rest p e = rw e
 
-  pub find_on : (n rest p : ℕ) → 0 < n → ends xs x p ≡ false → find_from xs x n rest p ≡ find_from xs x (n - 1) (rest / 2) (child xs rest p)
-  find_on zero rest p z e = absurd (omega arith)
-  find_on (suc n) rest p z e = let q : suc n - 1 ≡ n = omega arith in rw q (find_step n rest p e)
+  -- the look after n others
+  pub find_look : (n rest p : ℕ) → n < 33 → ends xs x p ≡ false → find_from xs x (33 - n) rest p ≡ find_from xs x (33 - (n + 1)) (rest / 2) (child xs rest p)
+  find_look n rest p l e = let q : 33 - n ≡ suc (33 - (n + 1)) = omega arith in rw q (find_step (33 - (n + 1)) rest p e)
 
   pub find_zero : (rest p : ℕ) → find_from xs x 0 rest p ≡ 1024
   unfolding find_from

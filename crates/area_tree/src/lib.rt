@@ -12,26 +12,20 @@ pub const NODES: usize = 5124;
 // The nodes that an array has room for. They are numbered from 1 on; 0 is none.
 const MOST: u32 = 1024;
 
-// The place that stays empty. It is no area's.
+// The place that stays empty. It is no area's. A walk that finds no place answers it and not an Option: nothing is known there, so that no caller tests for it.
 const EMPTY: usize = 1024;
 
 // How often a walk looks at a place: at the root, and once after each bit.
 const LOOKS: u32 = 33;
 
-// Of an area of which nothing is known.
+// What is known of an area: numbers and no enum, since they stand in the lent array, which may have any. Of an area of which nothing is known:
 pub const NOTHING: u32 = 0;
 
-// Of an area that is allocated.
+// Of an area that is allocated:
 pub const ALLOCATED: u32 = 1;
 
-// Of an area that was inserted.
+// Of an area that was inserted:
 pub const INSERTED: u32 = 2;
-
-fn wide(x: u32) -> usize
-    ensures { result ≡ x }
-{
-    x as usize
-}
 
 // The root for an area: the high ten bits of the low word of a product.
 fn root_of(area: u32) -> usize
@@ -45,7 +39,7 @@ fn node_at(nodes: &[u32; NODES], p: usize) -> usize
     requires { p < 5124 }
     ensures { (result ≡ node_at nodes.now p) × (result ≤ 1024) }
 {
-    let k = wide(nodes[p]);
+    let k = nodes[p] as usize;
     if 1024 < k {
         return 0;
     }
@@ -58,15 +52,13 @@ fn place_of(nodes: &[u32; NODES], area: u32) -> usize
 {
     let mut p = root_of(area);
     let mut rest = area;
-    let mut left = LOOKS;
-    while 0 < left {
+    for _looked in 0..LOOKS {
         let k = node_at(nodes, p);
         if (k == 0) | (nodes[1024 + 4 * k] == area) {
             return p;
         }
-        p = 1026 + 4 * k + wide(rest % 2);
+        p = 1026 + 4 * k + (rest % 2) as usize;
         rest = rest / 2;
-        left -= 1;
     }
     EMPTY
 }
@@ -101,7 +93,7 @@ pub fn allocate(nodes: &mut [u32; NODES], count: u32, area: u32)
         return;
     }
     let n = count + 1;
-    let at = 1024 + 4 * wide(n);
+    let at = 1024 + 4 * (n as usize);
     nodes[at] = area;
     nodes[at + 1] = ALLOCATED;
     nodes[at + 2] = 0;

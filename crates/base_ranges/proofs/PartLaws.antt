@@ -1,25 +1,12 @@
 -- The tests of the code, on parts of the range, agree with trying each multiple.
+use Prim.Native.Nat.{max as higher, min as lower}
 use Rattle.rows.{proofs.Kit.{ℕ, ◌+◌, ◌-◌, ◌≤◌, ◌<◌, ◌≡◌, refl, sym, ap, ◌∙◌, Bool, true, false, cond, not, ◌&&◌, leb, ltb, leb-true, le-leb, lt-leb, ltb-true, ltb-false, lt-ltb, le-ltb, not-true, dec_lt, arith}, proofs.Bools.{not_both, is_false, same_test}}
 use Rattle.addresses.{specs.Addresses.is_multiple, specs.declared.BaseCheck.BaseCheck, specs.declared.BaseCheck.TheVariants.{Valid, Unaligned, BelowMinimum, AboveMaximum}, specs.BaseChecks.{base_check, is_valid}}
 use Rattle.addresses.proofs.BaseCheckLaws as check
-use Rattle.base_ranges.specs.{declared.BaseRange.BaseRange, declared.BaseRange.TheVariants.{Always, Never, Sometimes}, BaseRanges.{any_multiple, has_multiple, range_of, base_range, InRange}, Nearest.{multiple_to, higher, lower}}
+use Rattle.base_ranges.specs.{declared.BaseRange.TheVariants.{Always, Never, Sometimes}, BaseRanges.{any_multiple, has_multiple, range_of, base_range, InRange}, Nearest.multiple_to}
 use Rattle.base_ranges.proofs.{RangeLaws.{any_says, says_any, none_says, says_none, exactly}, NearestLaws.{to_multiple, to_below, to_highest}}
 
 -- ---- parts of a range
-
-higher_says : (a b : ℕ) → (a ≤ higher a b) × (b ≤ higher a b) × ((x : ℕ) → a ≤ x → b ≤ x → higher a b ≤ x)
-higher_says a b =
-    elim (dec_lt a b) [
-      | yes l ↦ rw (lt-ltb a b l) (omega arith, omega arith, λ x p q. q)
-      | no l ↦ rw (le-ltb a b (omega arith)) (omega arith, omega arith, λ x p q. p)
-    ]
-
-lower_says : (a b : ℕ) → (lower a b ≤ a) × (lower a b ≤ b) × ((x : ℕ) → x ≤ a → x ≤ b → x ≤ lower a b)
-lower_says a b =
-    elim (dec_lt b a) [
-      | yes l ↦ rw (lt-ltb b a l) (omega arith, omega arith, λ x p q. q)
-      | no l ↦ rw (le-ltb b a (omega arith)) (omega arith, omega arith, λ x p q. p)
-    ]
 
 -- there is a multiple where the last one up to the end is not below the start
 pub there : (a lo hi : ℕ) → leb lo (multiple_to hi a) ≡ has_multiple a lo hi
@@ -44,10 +31,9 @@ part a lo hi from to p inside all =
 
 pub below : (a min lo hi : ℕ) → lo < min → has_multiple a lo (lower hi (min - 1)) ≡ any_multiple a lo hi (λ base. ltb base min)
 below a min lo hi l =
-    let (p, q, most) = lower_says hi (min - 1) in
     part a lo hi lo (lower hi (min - 1)) (λ base. ltb base min)
     (λ b i. let to = i.to in (record { from = i.from; to = omega arith; multiple = i.multiple }, lt-ltb b min (omega arith)))
-    (λ b i h. let u = ltb-true b min h in record { from = i.from; to = most b i.to (omega arith); multiple = i.multiple })
+    (λ b i h. let u = ltb-true b min h in let to = i.to in record { from = i.from; to = omega arith; multiple = i.multiple })
 
 pub none_below : (a min lo hi : ℕ) → min ≤ lo → any_multiple a lo hi (λ base. ltb base min) ≡ false
 none_below a min lo hi l = says_none a lo hi (λ base. ltb base min) (λ b i. let from = i.from in le-ltb b min (omega arith))
@@ -93,8 +79,6 @@ module _ (a s min max : ℕ) where
   module _ (lo hi : ℕ) where
     pub valid_part : s ≤ max → has_multiple a (higher lo min) (lower hi (max - s)) ≡ any_multiple a lo hi valid
     valid_part l =
-        let (p, q, least) = higher_says lo min in
-        let (u, v, most) = lower_says hi (max - s) in
         part a lo hi (higher lo min) (lower hi (max - s)) valid
         (λ b i.
         let from = i.from in
@@ -102,7 +86,9 @@ module _ (a s min max : ℕ) where
         (record { from = omega arith; to = omega arith; multiple = i.multiple }, says_valid b i.multiple (omega arith) (omega arith)))
         (λ b i h.
         let (m, x, y) = valid_says b h in
-        record { from = least b i.from x; to = most b i.to (omega arith); multiple = m })
+        let from = i.from in
+        let to = i.to in
+        record { from = omega arith; to = omega arith; multiple = m })
 
     pub none_valid : max < s → any_multiple a lo hi valid ≡ false
     none_valid l = says_none a lo hi valid (λ b i. is_false (valid b) (λ h. let (m, x, y) = valid_says b h in absurd (omega arith)))

@@ -4,7 +4,7 @@
 ghost use Rattle.std.specs.Prelude.{◌≡◌, ltb};
 ghost use Rattle.addresses.specs.BaseChecks.{base_check, is_valid};
 ghost use Rattle.base_ranges.specs.BaseRanges.{any_multiple, has_multiple, base_range, range_number};
-ghost use Rattle.base_ranges.specs.Nearest.{multiple_to, higher, lower};
+ghost use Rattle.base_ranges.specs.Nearest.{multiple_to};
 
 #[derive(Clone, Copy)]
 pub enum BaseRange {
@@ -23,24 +23,6 @@ impl BaseRange {
             BaseRange::Sometimes => 3,
         }
     }
-}
-
-fn higher(a: u64, b: u64) -> u64
-    ensures { result ≡ higher a b }
-{
-    if a < b {
-        return b;
-    }
-    a
-}
-
-fn lower(a: u64, b: u64) -> u64
-    ensures { result ≡ lower a b }
-{
-    if b < a {
-        return b;
-    }
-    a
 }
 
 // The highest multiple of a at or below x; of 0 it is 0. Of a power of two the low bits tell, with no division.
@@ -68,7 +50,7 @@ fn any_below(alignment: u64, minimum: u64, lowest: u64, highest: u64) -> bool
     ensures { result ≡ any_multiple alignment lowest highest (λ base. ltb base minimum) }
 {
     if lowest < minimum {
-        return has_multiple(alignment, lowest, lower(highest, minimum - 1));
+        return has_multiple(alignment, lowest, highest.min(minimum - 1));
     }
     false
 }
@@ -87,11 +69,7 @@ fn any_valid(
     if maximum < size {
         return false;
     }
-    has_multiple(
-        alignment,
-        higher(lowest, minimum),
-        lower(highest, maximum - size),
-    )
+    has_multiple(alignment, lowest.max(minimum), highest.min(maximum - size))
 }
 
 // Where there is no multiple, the last at or below the highest base is below the lowest. All are valid where none is below the minimum and the last ends by the maximum.

@@ -1,26 +1,26 @@
-// A region against regions that are kept in arrays: the first n of each array tell mask, address, size and whether it is a page table.
+// A region against the regions held, and an address against the page tables among them.
 #![tactic(auto)]
 
-ghost use Rattle.std.specs.Prelude.{◌≡◌, ◌&&◌, ◌≤◌, length};
+ghost use Rattle.std.specs.Prelude.{◌≡◌, ◌&&◌, ◌≤◌};
 ghost use Rattle.masks.specs.Masks.{shares};
 ghost use Rattle.addresses.specs.Addresses.{meets};
 ghost use Rattle.clashes.specs.Clashes.{any_tables_share, any_table_holds};
 
+use reloc_regions::RelocRegions;
 use rules::Region;
 
-// Some of the first n regions is a page table, as r is, and shares a bit with it.
-pub fn any_tables_share<'a>(r: Region, masks: &'a [u32], tables: &'a [bool], n: usize) -> bool
-    requires { (n ≤ length masks.now) × (n ≤ length tables.now) }
-    ensures { result ≡ any_tables_share r masks.now tables.now n }
+// Some region held is a page table, as r is, and shares a bit with it.
+#[tactic(auto, using(rows::proofs::BelowLaws::any_more), unfolding(rows::specs::Below::any_below))]
+pub fn any_tables_share<const N: usize>(r: Region, held: &RelocRegions<N>) -> bool
+    requires { held.now.count ≤ N }
+    ensures { result ≡ any_tables_share r held.now.mask held.now.page_table held.now.count }
 {
     if !r.page_table {
         return false;
     }
-    let mut i = 0;
     let mut found = false;
-    while i < n {
-        found = found | (tables[i] & masks::shares(r.mask, masks[i]));
-        i += 1;
+    for i in 0..held.count {
+        found |= held.page_table[i] & masks::shares(r.mask, held.mask[i]);
     }
     found
 }
@@ -32,27 +32,17 @@ pub fn overlaps(r: Region, mask: u32, gpa: u64, size: u64) -> bool
     masks::shares(r.mask, mask) & addresses::meets(r.gpa, r.size, gpa, size)
 }
 
-// Some page table of the first n regions shares a bit with the mask and contains the address.
-pub fn any_table_holds<'a>(
-    masks: &'a [u32],
-    gpas: &'a [u64],
-    sizes: &'a [u64],
-    tables: &'a [bool],
-    n: usize,
-    mask: u32,
-    gpa: u64,
-) -> bool
-    requires { (n ≤ length masks.now) × (n ≤ length gpas.now) × (n ≤ length sizes.now) × (n ≤ length tables.now) }
-    ensures { result ≡ any_table_holds mask gpa masks.now gpas.now sizes.now tables.now n }
+// Some page table held shares a bit with the mask and contains the address.
+#[tactic(auto, using(rows::proofs::BelowLaws::any_more), unfolding(rows::specs::Below::any_below))]
+pub fn any_table_holds<const N: usize>(held: &RelocRegions<N>, mask: u32, gpa: u64) -> bool
+    requires { held.now.count ≤ N }
+    ensures { result ≡ any_table_holds mask gpa held.now.mask held.now.gpa held.now.size held.now.page_table held.now.count }
 {
-    let mut i = 0;
     let mut found = false;
-    while i < n {
-        found = found
-            | (tables[i]
-                & masks::shares(masks[i], mask)
-                & addresses::contains(gpas[i], sizes[i], gpa));
-        i += 1;
+    for i in 0..held.count {
+        found |= held.page_table[i]
+            & masks::shares(held.mask[i], mask)
+            & addresses::contains(held.gpa[i], held.size[i], gpa);
     }
     found
 }

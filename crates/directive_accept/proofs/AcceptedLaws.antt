@@ -2,7 +2,7 @@
 use Rattle.rows.{proofs.Kit.{ℕ, ◌+◌, ◌-◌, ◌≤◌, ◌<◌, arith, ◌≡◌, refl, sym, ◌∙◌, Bool, true, false, ◌&&◌, ◌||◌, or-false, none, List, [], eqb, length, take, drop}, specs.Rows.{Rows, any, before}, proofs.Bools.or_false_parts, proofs.BelowLaws.any_more}
 use Rattle.igvm_defs.{specs.declared.Arch.Arch, specs.Kinds.{kind_of, directive_list}, specs.Refusals.is_fault}
 use Rattle.sheet.{specs.declared.Cursor.Cursor, specs.Head.{head_of, row_count, first_directive}, specs.Table.{row_kind, row_length, body_of, offset_of}, specs.Walk.ReadTo, proofs.Readable.{RowOk, directive_list_lem, body_length_lem}}
-use Rattle.sheet_reader.{specs.declared.SheetRow.SheetRow, specs.Reading.{read_at, cursor_after}, proofs.ReaderLaws.{Found, kind_found, list_found, room_row, body_found, read_after}}
+use Rattle.sheet_reader.{specs.declared.SheetRow.SheetRow, specs.Reading.cursor_after, proofs.ReaderLaws.{Found, room_row, body_found, read_after}}
 use Rattle.initialization_header.specs.declared.IgvmInitializationHeader.{IgvmInitializationHeader}
 use Rattle.directive_header.{specs.declared.IgvmDirectiveHeader.IgvmDirectiveHeader, specs.Directives.directive_of, specs.Fields.{kind_number, area_of, is_parameter}, proofs.DirectiveLaws.{kind_directive, area_directive}}
 use Rattle.sheet_headers.{specs.Headers.sheet_headers, proofs.ListLaws.directive_header}
@@ -128,10 +128,9 @@ plain_onward s from c d contexts a o =
     record { low = omega arith; rows = o.accepted contexts a.rows; areas = λ area. o.areas area ∙ a.areas area; masks = a.masks }
 
 -- a page in order
-pub onward_page : (s : List ℕ) (c d : Cursor) → Onward s c d → d.row < row_count (head_of s) → (r : SheetRow) → r ≡ read_at s d.row d.at → r.kind ≡ 32
+pub onward_page : (s : List ℕ) (c d : Cursor) → Onward s c d → d.row < row_count (head_of s) → (r : SheetRow) → Found s d.row d.at r → r.kind ≡ 32
     → (body : List ℕ) → body ≡ take r.length (drop d.at s) → ((arch : Arch) → BodyInOrder arch 32 body) → Onward s c (cursor_after d r)
-onward_page s c d o l r e page body part alone =
-    let f = kind_found s d.row d.at r e (omega arith) in
+onward_page s c d o l r f page body part alone =
     let q : body ≡ body_of s d.row = part ∙ body_found s d o.read r f in
     let p : (contexts : List ℕ) → PlainRow (sheet_headers s).arch (row_kind s d.row) (body_of s d.row) contexts contexts =
     λ contexts. page_plain (sheet_headers s).arch (row_kind s d.row) (body_of s d.row) contexts (rw (← f.kind) page) (rw q at (alone (sheet_headers s).arch))
@@ -147,8 +146,7 @@ onward_page s c d o l r e page body part alone =
 
 -- a row in order that names no area
 pub plain_next : (s : List ℕ) (from c : Cursor) (contexts next : List ℕ) → PlainPassed s from c contexts → c.row < row_count (head_of s)
-    → (r : SheetRow) → r ≡ read_at s c.row c.at → (body : List ℕ) → body ≡ take r.length (drop c.at s)
+    → (r : SheetRow) → Found s c.row c.at r → (body : List ℕ) → body ≡ take r.length (drop c.at s)
     → PlainRow (sheet_headers s).arch r.kind body contexts next → length next ≡ 3 → PlainPassed s from (cursor_after c r) next
-plain_next s from c contexts next a l r e body part row n =
-    let f = list_found s c.row c.at r e (rw row.alone.list (omega arith)) in
+plain_next s from c contexts next a l r f body part row n =
     plain_more s c a.rows.read r f l from contexts next a (rw (f.kind, part ∙ body_found s c a.rows.read r f) at row) n

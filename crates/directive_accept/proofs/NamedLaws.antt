@@ -1,13 +1,13 @@
 -- Rows in order that name an area, and the rows with a table of areas.
-use Rattle.rows.{proofs.Kit.{ℕ, ◌+◌, ◌*◌, ◌-◌, ◌≤◌, ◌<◌, arith, ◌≡◌, refl, sym, ◌∙◌, false, or-false, List, [], ◌∷◌, length, get_or, take, drop, replicate}, specs.Below.any_below, specs.Rows.{before}}
+use Rattle.rows.{proofs.Kit.{ℕ, ◌-◌, ◌≤◌, ◌<◌, arith, ◌≡◌, refl, sym, ◌∙◌, false, or-false, List, [], ◌∷◌, length, get_or, take, drop}, specs.Below.any_below, specs.Rows.{before}}
 use Rattle.masks.specs.Masks.{shares}
 use Rattle.sheet.{specs.declared.Cursor.Cursor, specs.Head.{head_of, row_count, first_directive}, specs.Table.{row_kind, body_of}, specs.Walk.ReadTo}
-use Rattle.sheet_reader.{specs.declared.SheetRow.SheetRow, specs.Reading.{read_at, cursor_after}, proofs.ReaderLaws.{list_found, body_found}}
+use Rattle.sheet_reader.{specs.declared.SheetRow.SheetRow, specs.Reading.cursor_after, proofs.ReaderLaws.{Found, body_found}}
 use Rattle.directive_header.{specs.declared.IgvmDirectiveHeader.IgvmDirectiveHeader, specs.Directives.directive_of}
 use Rattle.sheet_headers.specs.Headers.{sheet_headers}
 use Rattle.rules.specs.Directives.{is_context}
 use Rattle.directive_check.proofs.DirectiveRecordLaws.{holds_no_contexts}
-use Rattle.area_table.{specs.AreaTable.HoldsAreas, proofs.AreaTableLaws.{holds_same, holds_none}}
+use Rattle.area_table.{specs.declared.AreaTable.AreaTable, specs.Table.Knows, proofs.AreaTableLaws.holds_same}
 use Rattle.directive_row.specs.Row.{NamedRow, ContextsNext, state_of}
 use Rattle.directive_accept.specs.Accepted.{DirectivesAccepted, NamedAccepted, PlainAccepted, PlainPassed, AreasPassed, state_before}
 use Rattle.directive_accept.proofs.AcceptedLaws.{read_row_lem, accepted_more, state_more}
@@ -18,23 +18,22 @@ contexts_stay contexts h other level bits = rw (other level bits) (sym (or-false
 
 -- ---- rows that name an area
 
-pub areas_none : (s : List ℕ) (c : Cursor) (few links areas states : List ℕ) → ReadTo s c → first_directive s ≤ c.row → HoldsAreas few links areas states (state_before s c.row)
-    → AreasPassed s c c few links areas states
-areas_none s c few links areas states r d h = record { low = omega arith; first = d; read = r; accepted = λ contexts a. a; known = h }
+pub areas_none : (s : List ℕ) (c : Cursor) {LINKS NODES : ℕ} (t : AreaTable LINKS NODES) → ReadTo s c → first_directive s ≤ c.row → Knows t (state_before s c.row)
+    → AreasPassed s c c t
+areas_none s c t r d h = record { low = omega arith; first = d; read = r; accepted = λ contexts a. a; known = h }
 
 -- the table may change, as long as it has the same
-pub areas_kept : (s : List ℕ) (c d : Cursor) (few links areas states fewNext linksNext areasNext statesNext : List ℕ) → AreasPassed s c d few links areas states
-    → HoldsAreas fewNext linksNext areasNext statesNext (state_before s d.row) → AreasPassed s c d fewNext linksNext areasNext statesNext
-areas_kept s c d few links areas states fewNext linksNext areasNext statesNext a h = record { low = a.low; first = a.first; read = a.read; accepted = a.accepted; known = h }
+pub areas_kept : (s : List ℕ) (c d : Cursor) {LINKS NODES : ℕ} (t next : AreaTable LINKS NODES) → AreasPassed s c d t
+    → Knows next (state_before s d.row) → AreasPassed s c d next
+areas_kept s c d t next a h = record { low = a.low; first = a.first; read = a.read; accepted = a.accepted; known = h }
 
 -- a row in order
-pub areas_next : (s : List ℕ) (c d : Cursor) (few links areas states fewNext linksNext areasNext statesNext : List ℕ) → AreasPassed s c d few links areas states
-    → d.row < row_count (head_of s) → (r : SheetRow) → r ≡ read_at s d.row d.at → (body : List ℕ) → body ≡ take r.length (drop d.at s)
-    → NamedRow (sheet_headers s).arch (sheet_headers s).initializations (before (d.row - first_directive s) (sheet_headers s).directives) r.kind body fewNext linksNext areasNext statesNext
-    → AreasPassed s c (cursor_after d r) fewNext linksNext areasNext statesNext
-areas_next s c d few links areas states fewNext linksNext areasNext statesNext a l r e body part row =
-    let f = list_found s d.row d.at r e (rw row.row.alone.list (omega arith)) in
-    let n : NamedRow (sheet_headers s).arch (sheet_headers s).initializations (before (d.row - first_directive s) (sheet_headers s).directives) (row_kind s d.row) (body_of s d.row) fewNext linksNext areasNext statesNext =
+pub areas_next : (s : List ℕ) (c d : Cursor) {LINKS NODES : ℕ} (t next : AreaTable LINKS NODES) → AreasPassed s c d t
+    → d.row < row_count (head_of s) → (r : SheetRow) → Found s d.row d.at r → (body : List ℕ) → body ≡ take r.length (drop d.at s)
+    → NamedRow (sheet_headers s).arch (sheet_headers s).initializations (before (d.row - first_directive s) (sheet_headers s).directives) r.kind body next
+    → AreasPassed s c (cursor_after d r) next
+areas_next s c d t next a l r f body part row =
+    let n : NamedRow (sheet_headers s).arch (sheet_headers s).initializations (before (d.row - first_directive s) (sheet_headers s).directives) (row_kind s d.row) (body_of s d.row) next =
     rw (f.kind, part ∙ body_found s d a.read r f) at row
     in
     let low = a.low in let first = a.first in
@@ -50,18 +49,17 @@ areas_next s c d few links areas states fewNext linksNext areasNext statesNext a
     }
 
 -- rows that name an area, and rows behind them that name none
-pub named_turn : (s : List ℕ) (c d e : Cursor) (next few links areas states : List ℕ) → AreasPassed s c d few links areas states
-    → PlainPassed s d e next → NamedAccepted s e next few links areas states
-named_turn s c d e next few links areas states a p =
+pub named_turn : (s : List ℕ) (c d e : Cursor) (next : List ℕ) {LINKS NODES : ℕ} (t : AreaTable LINKS NODES) → AreasPassed s c d t
+    → PlainPassed s d e next → NamedAccepted s e next t
+named_turn s c d e next t a p =
     record { rows = p.rows; known = holds_same a.known (λ x. sym (p.areas x)); masks = p.masks }
 
 -- ---- where the pass begins
 
--- with an empty table of n nodes
-pub named_first : (s : List ℕ) (c : Cursor) (contexts : List ℕ) (n : ℕ) → 0 < n → n ≤ 65536 → PlainAccepted s c contexts
-    → NamedAccepted s c contexts (replicate 1024 0) (replicate (1024 + 2 * n) 0) (replicate n 0) (replicate n 0)
-named_first s c contexts n some small a =
-    record { rows = a.rows; known = holds_same (holds_none n some small) (λ x. sym (a.areas x)); masks = a.masks }
+-- with an empty table
+pub named_first : (s : List ℕ) (c : Cursor) (contexts : List ℕ) {LINKS NODES : ℕ} (t : AreaTable LINKS NODES) → Knows t (λ _. 0) → PlainAccepted s c contexts
+    → NamedAccepted s c contexts t
+named_first s c contexts t none a = record { rows = a.rows; known = holds_same none (λ x. sym (a.areas x)); masks = a.masks }
 
 module _ (s : List ℕ) (c : Cursor) (e : c.row ≡ first_directive s) where
   none_before : c.row - first_directive s ≡ 0

@@ -9,7 +9,8 @@ use Rattle.sheet.specs.Walk.{ReadTo}
 use Rattle.sheet_headers.specs.Headers.{sheet_headers}
 use Rattle.rules.specs.Verdict.{directive_faults}
 use Rattle.directive_check.specs.Record.{HoldsContexts}
-use Rattle.area_table.specs.AreaTable.{HoldsAreas}
+use Rattle.area_table.specs.declared.AreaTable.{AreaTable}
+use Rattle.area_table.specs.Table.{Knows}
 use Rattle.directive_row.specs.Row.{state_of}
 
 -- no directive row before the cursor's has a fault, of reading or by the rules, and the masks are those of the contexts among these rows
@@ -39,12 +40,12 @@ pub record PlainPassed (s : List ℕ) (c d : Cursor) (next : List ℕ) : Type 0 
   pub masks : length next ≡ 3
 
 -- from one cursor to a later one, past rows that name an area: the masks are as they were, and the table of areas has what the rows so far tell
-pub record AreasPassed (s : List ℕ) (c d : Cursor) (few links areas states : List ℕ) : Type 0 where
+pub record AreasPassed (s : List ℕ) (c d : Cursor) {LINKS NODES : ℕ} (t : AreaTable LINKS NODES) : Type 0 where
   pub low : c.row ≤ d.row
   pub first : first_directive s ≤ d.row
   pub read : ReadTo s d
   pub accepted : (contexts : List ℕ) → DirectivesAccepted s c contexts → DirectivesAccepted s d contexts
-  pub known : HoldsAreas few links areas states (state_before s d.row)
+  pub known : Knows t (state_before s d.row)
 
 -- no directive row before the cursor's has a fault, and none names an area
 pub record PlainAccepted (s : List ℕ) (c : Cursor) (contexts : List ℕ) : Type 0 where
@@ -53,7 +54,7 @@ pub record PlainAccepted (s : List ℕ) (c : Cursor) (contexts : List ℕ) : Typ
   pub masks : length contexts ≡ 3
 
 -- no directive row before the cursor's has a fault, and the table of areas has what these rows tell
-pub record NamedAccepted (s : List ℕ) (c : Cursor) (contexts few links areas states : List ℕ) : Type 0 where
+pub record NamedAccepted (s : List ℕ) (c : Cursor) (contexts : List ℕ) {LINKS NODES : ℕ} (t : AreaTable LINKS NODES) : Type 0 where
   pub rows : DirectivesAccepted s c contexts
-  pub known : HoldsAreas few links areas states (state_before s c.row)
+  pub known : Knows t (state_before s c.row)
   pub masks : length contexts ≡ 3

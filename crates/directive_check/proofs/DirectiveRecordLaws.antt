@@ -1,9 +1,9 @@
 -- Laws of the contexts' masks, and of the area rule over numbers.
-use Rattle.rows.{proofs.Kit.{ℕ, ◌+◌, ◌<◌, arith, ◌≡◌, refl, sym, ap, ◌∙◌, Bool, true, false, cond, not, ◌&&◌, ◌||◌, or-false, List, [], ◌∷◌, none, bit_or, eqb, length, get_or, set, get_or-set_same, get_or-set_other, eqb-true, eqb-false}, specs.Below.any_below, specs.Rows.{Rows, any, before}, proofs.BelowLaws.{zeros, any_more}, proofs.Bools.or_false_parts}
-use Rattle.igvm_defs.specs.Kinds.{kind_of, directive_list}
+use Rattle.rows.{proofs.Kit.{ℕ, leb-true, ◌+◌, ◌<◌, arith, ◌≡◌, refl, sym, ap, ◌∙◌, Bool, true, false, cond, not, ◌&&◌, ◌||◌, or-false, List, [], ◌∷◌, none, bit_or, eqb, length, get_or, set, get_or-set_same, get_or-set_other, eqb-true, eqb-false}, specs.Below.any_below, specs.Rows.{Rows, any, before}, proofs.BelowLaws.{zeros, any_more}, proofs.Bools.{or_false_parts, and_parts}}
+use Rattle.igvm_defs.{specs.{Kinds.{kind_of, directive_list, spans}, declared.Arch.Arch, declared.Vtl.Vtl}, proofs.Runs.{each, ◌⨾◌}}
 use Rattle.masks.{specs.Masks.shares, proofs.MaskLaws.{shares_zero_left, shares_or}}
 use Rattle.directive_header.{specs.declared.IgvmDirectiveHeader.IgvmDirectiveHeader, specs.declared.IgvmDirectiveHeader.TheVariants.{PageData, ParameterArea, VpCount, EnvironmentInfo, Srat, Madt, Slit, Pptt, MmioRanges, MemoryMap, CommandLine, DeviceTree, RequiredMemory, SnpVpContext, X64NativeVpContext, X64VbsVpContext, AArch64VbsVpContext, AArch64CcaVpContext, ParameterInsert, ErrorRange, SnpIdBlock, VbsMeasurement}, specs.Directives.directive_of, proofs.DirectiveLaws.kind_directive, specs.Fields.{kind_number, area_of, is_parameter, area_named}}
-use Rattle.rules.{specs.declared.Region.Region, specs.Options.passes, specs.Directives.{allocates, inserts, is_allocated, bad_area, is_context, no_context}}
+use Rattle.rules.{specs.declared.Region.Region, specs.Options.passes, specs.Directives.{wrong_context_arch, allocates, inserts, is_allocated, bad_area, is_context, no_context}}
 use Rattle.directive_check.specs.Record.{HoldsContexts, lacks_context, how_of, how_named, names_area, area_number}
 
 -- ---- contexts
@@ -52,7 +52,74 @@ pub lacks_says : (contexts : List ℕ) (ds : Rows IgvmDirectiveHeader) (r : Regi
 unfolding lacks_context no_context
 lacks_says contexts ds r h = rw (h r.vtl r.mask)
 
+-- a header of a kind other than 47 and 48 is no VBS context
+pub no_vbs_context : (level bits : ℕ) (h : IgvmDirectiveHeader)
+    → ((v : Vtl) (a b : ℕ) → h ≡ X64VbsVpContext v a b → ⊥) → ((v : Vtl) (a b : ℕ) → h ≡ AArch64VbsVpContext v a b → ⊥)
+    → is_context level bits h ≡ false
+no_vbs_context level bits (PageData a b c d e) n0 n1 = refl
+no_vbs_context level bits (ParameterArea a b c) n0 n1 = refl
+no_vbs_context level bits (VpCount a) n0 n1 = refl
+no_vbs_context level bits (EnvironmentInfo a) n0 n1 = refl
+no_vbs_context level bits (Srat a) n0 n1 = refl
+no_vbs_context level bits (Madt a) n0 n1 = refl
+no_vbs_context level bits (Slit a) n0 n1 = refl
+no_vbs_context level bits (Pptt a) n0 n1 = refl
+no_vbs_context level bits (MmioRanges a) n0 n1 = refl
+no_vbs_context level bits (MemoryMap a) n0 n1 = refl
+no_vbs_context level bits (CommandLine a) n0 n1 = refl
+no_vbs_context level bits (DeviceTree a) n0 n1 = refl
+no_vbs_context level bits (RequiredMemory a b c d) n0 n1 = refl
+no_vbs_context level bits (SnpVpContext a b c d) n0 n1 = refl
+no_vbs_context level bits (X64NativeVpContext a b c) n0 n1 = refl
+no_vbs_context level bits (X64VbsVpContext a b c) n0 n1 = absurd (n0 a b c refl)
+no_vbs_context level bits (AArch64VbsVpContext a b c) n0 n1 = absurd (n1 a b c refl)
+no_vbs_context level bits (AArch64CcaVpContext a b c) n0 n1 = refl
+no_vbs_context level bits (ParameterInsert a) n0 n1 = refl
+no_vbs_context level bits (ErrorRange a b c) n0 n1 = refl
+no_vbs_context level bits (SnpIdBlock a b) n0 n1 = refl
+no_vbs_context level bits (VbsMeasurement a b) n0 n1 = refl
+
+-- ---- the architecture
+
+-- a header of a kind other than 46 to 49 stands with any architecture
+pub right_arch : (arch : Arch) (h : IgvmDirectiveHeader)
+    → ((a b d : ℕ) → h ≡ X64NativeVpContext a b d → ⊥) → ((v : Vtl) (a b : ℕ) → h ≡ X64VbsVpContext v a b → ⊥)
+    → ((v : Vtl) (a b : ℕ) → h ≡ AArch64VbsVpContext v a b → ⊥) → ((a b d : ℕ) → h ≡ AArch64CcaVpContext a b d → ⊥)
+    → wrong_context_arch arch (kind_number h) ≡ false
+unfolding wrong_context_arch
+right_arch arch (PageData a b c d e) n0 n1 n2 n3 = refl
+right_arch arch (ParameterArea a b c) n0 n1 n2 n3 = refl
+right_arch arch (VpCount a) n0 n1 n2 n3 = refl
+right_arch arch (EnvironmentInfo a) n0 n1 n2 n3 = refl
+right_arch arch (Srat a) n0 n1 n2 n3 = refl
+right_arch arch (Madt a) n0 n1 n2 n3 = refl
+right_arch arch (Slit a) n0 n1 n2 n3 = refl
+right_arch arch (Pptt a) n0 n1 n2 n3 = refl
+right_arch arch (MmioRanges a) n0 n1 n2 n3 = refl
+right_arch arch (MemoryMap a) n0 n1 n2 n3 = refl
+right_arch arch (CommandLine a) n0 n1 n2 n3 = refl
+right_arch arch (DeviceTree a) n0 n1 n2 n3 = refl
+right_arch arch (RequiredMemory a b c d) n0 n1 n2 n3 = refl
+right_arch arch (SnpVpContext a b c d) n0 n1 n2 n3 = refl
+right_arch arch (X64NativeVpContext a b c) n0 n1 n2 n3 = absurd (n0 a b c refl)
+right_arch arch (X64VbsVpContext a b c) n0 n1 n2 n3 = absurd (n1 a b c refl)
+right_arch arch (AArch64VbsVpContext a b c) n0 n1 n2 n3 = absurd (n2 a b c refl)
+right_arch arch (AArch64CcaVpContext a b c) n0 n1 n2 n3 = absurd (n3 a b c refl)
+right_arch arch (ParameterInsert a) n0 n1 n2 n3 = refl
+right_arch arch (ErrorRange a b c) n0 n1 n2 n3 = refl
+right_arch arch (SnpIdBlock a b) n0 n1 n2 n3 = refl
+right_arch arch (VbsMeasurement a b) n0 n1 n2 n3 = refl
+
 -- ---- areas
+
+-- a parameter's body has eight bytes at least
+pub parameter_least : (kind : ℕ) → is_parameter kind ≡ true → (kind_of kind).least ≡ 8
+unfolding kind_of spans
+parameter_least kind t =
+    let (a, b) = and_parts _ _ t in
+    let l = leb-true 34 kind a in
+    let u = leb-true kind 43 b in
+    each (λ k. (kind_of k).least ≡ 8) 34 10 (refl ⨾ refl ⨾ refl ⨾ refl ⨾ refl ⨾ refl ⨾ refl ⨾ refl ⨾ refl ⨾ refl ⨾ tt) kind l (omega arith)
 
 -- what is asked of a header's kind and area, asked of how it names an area, and which
 record SaysHow (h : IgvmDirectiveHeader) : Type 0 where

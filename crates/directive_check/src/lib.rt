@@ -5,21 +5,22 @@ ghost use Rattle.std.specs.Prelude.{◌≡◌, ◌&&◌, ◌||◌, eqb, get_or, 
 ghost use Rattle.rows.specs.Rows.{Rows, before};
 ghost use Rattle.initialization_header.specs.declared.IgvmInitializationHeader.{IgvmInitializationHeader};
 ghost use Rattle.directive_header.specs.declared.IgvmDirectiveHeader.{IgvmDirectiveHeader};
-ghost use Rattle.igvm_defs.specs.Refusals.{fault, no_fault, refuse};
+ghost use Rattle.igvm_defs.specs.Refusals.{fault, no_fault, refuse, Told};
 ghost use Rattle.igvm_defs.specs.Vtls.{vtl_number};
 ghost use Rattle.igvm_defs.specs.Kinds.{kind_of};
 ghost use Rattle.masks.specs.Masks.{shares};
 ghost use Rattle.directive_header.specs.Fields.{kind_number, is_parameter, area_named};
 ghost use Rattle.rules.specs.Directives.{validate_directive, wrong_context_arch, bad_area, inside_table};
-ghost use Rattle.directive_check.specs.Record.{HoldsContexts, lacks_context, how_named, area_number, DirectiveStepped};
+ghost use Rattle.directive_check.specs.Record.{HoldsContexts, lacks_context, how_named, how, area_in, area_number, DirectiveStepped};
 
 use directive_header::IgvmDirectiveHeader;
 use igvm_defs::{Arch, Fault, Vtl};
 use rules::Region;
 
 // The header alone: 21, 30, 22, 31.
-pub fn validate(h: IgvmDirectiveHeader) -> Fault
-    ensures { result ≡ validate_directive h }
+#[tactic(auto, using(igvm_defs::proofs::AnswerLaws::told_if), unfolding(igvm_defs::specs::Refusals::is_fault))]
+pub fn validate(h: IgvmDirectiveHeader) -> Result<(), Fault>
+    ensures { Told result (validate_directive h) }
 {
     match h {
         IgvmDirectiveHeader::PageData {
@@ -27,63 +28,65 @@ pub fn validate(h: IgvmDirectiveHeader) -> Fault
             data_type,
             data,
             ..
-        } => Fault::NONE
-            .or(21, gpa, !addresses::on_page(gpa))
-            .or(30, 0, 3 < data_type)
-            .or(31, 0, (igvm_defs::PAGE_SIZE_4K as usize) < data),
+        } => {
+            igvm_defs::refuse_if(!addresses::on_page(gpa), 21, gpa)?;
+            igvm_defs::refuse_if(3 < data_type, 30, 0)?;
+            igvm_defs::refuse_if((igvm_defs::PAGE_SIZE_4K as usize) < data, 31, 0)
+        }
         IgvmDirectiveHeader::ParameterArea {
             number_of_bytes,
             initial_data,
             ..
-        } => Fault::NONE
-            .or(22, number_of_bytes, !addresses::on_page(number_of_bytes))
-            .or(31, 0, number_of_bytes < initial_data as u64),
+        } => {
+            igvm_defs::refuse_if(!addresses::on_page(number_of_bytes), 22, number_of_bytes)?;
+            igvm_defs::refuse_if(number_of_bytes < initial_data as u64, 31, 0)
+        }
         IgvmDirectiveHeader::RequiredMemory {
             gpa,
             number_of_bytes,
             ..
-        } => Fault::NONE.or(21, gpa, !addresses::on_page(gpa)).or(
-            22,
-            number_of_bytes as u64,
-            !addresses::on_page(number_of_bytes as u64),
-        ),
-        IgvmDirectiveHeader::SnpVpContext { gpa, .. } => Fault::NONE.or(
-            21,
-            gpa,
-            !addresses::on_page(gpa),
-        ),
-        IgvmDirectiveHeader::ParameterInsert(p) => Fault::NONE.or(
-            21,
-            p.gpa,
-            !addresses::on_page(p.gpa),
-        ),
-        IgvmDirectiveHeader::ErrorRange { gpa, .. } => Fault::NONE.or(
-            21,
-            gpa,
-            !addresses::on_page(gpa),
-        ),
-        _ => Fault::NONE,
+        } => {
+            let bytes = number_of_bytes as u64;
+            igvm_defs::refuse_if(!addresses::on_page(gpa), 21, gpa)?;
+            igvm_defs::refuse_if(!addresses::on_page(bytes), 22, bytes)
+        }
+        IgvmDirectiveHeader::SnpVpContext { gpa, .. }
+        | IgvmDirectiveHeader::ErrorRange { gpa, .. } => {
+            igvm_defs::refuse_if(!addresses::on_page(gpa), 21, gpa)
+        }
+        IgvmDirectiveHeader::ParameterInsert(p) => {
+            igvm_defs::refuse_if(!addresses::on_page(p.gpa), 21, p.gpa)
+        }
+        _ => Ok(()),
     }
 }
 
 // 24: a VP context against the architecture, with its kind.
-fn arch_fault(arch: Arch, h: IgvmDirectiveHeader) -> Fault
-    ensures { result ≡ refuse (wrong_context_arch arch (kind_number h)) (fault 24 (kind_number h)) no_fault }
+#[tactic(auto, using(crate::proofs::DirectiveRecordLaws::right_arch), unfolding(rules::specs::Directives::wrong_context_arch, igvm_defs::specs::Refusals::is_fault))]
+fn arch_check(arch: Arch, h: IgvmDirectiveHeader) -> Result<(), Fault>
+    ensures { Told result (refuse (wrong_context_arch arch (kind_number h)) (fault 24 (kind_number h)) no_fault) }
 {
-    let x64 = arch.is_x64();
-    let aarch64 = arch.is_aarch64();
     match h {
-        IgvmDirectiveHeader::X64NativeVpContext { .. } => Fault::NONE.or(24, 46, !x64),
-        IgvmDirectiveHeader::X64VbsVpContext { .. } => Fault::NONE.or(24, 47, !x64),
-        IgvmDirectiveHeader::AArch64VbsVpContext { .. } => Fault::NONE.or(24, 48, !aarch64),
-        IgvmDirectiveHeader::AArch64CcaVpContext { .. } => Fault::NONE.or(24, 49, !aarch64),
-        _ => Fault::NONE,
+        IgvmDirectiveHeader::X64NativeVpContext { .. } => {
+            igvm_defs::refuse_if(!arch.is_x64(), 24, 46)
+        }
+        IgvmDirectiveHeader::X64VbsVpContext { .. } => {
+            igvm_defs::refuse_if(!arch.is_x64(), 24, 47)
+        }
+        IgvmDirectiveHeader::AArch64VbsVpContext { .. } => {
+            igvm_defs::refuse_if(!arch.is_aarch64(), 24, 48)
+        }
+        IgvmDirectiveHeader::AArch64CcaVpContext { .. } => {
+            igvm_defs::refuse_if(!arch.is_aarch64(), 24, 49)
+        }
+        _ => Ok(()),
     }
 }
 
 // ---- contexts: a mask for each VTL, of the VBS contexts read so far
 
 // The masks with a context of this VTL and mask.
+#[tactic(auto, using(crate::proofs::DirectiveRecordLaws::context_items))]
 fn with_context(contexts: [u32; 3], vtl: Vtl, mask: u32) -> [u32; 3]
     ensures { (level bits : ℕ) → shares (get_or result level 0) bits ≡ (shares (get_or contexts level 0) bits || (eqb (vtl_number vtl) level && shares mask bits)) }
 {
@@ -102,8 +105,8 @@ fn contexts_after(contexts: [u32; 3], h: IgvmDirectiveHeader) -> [u32; 3]
             vtl,
             compatibility_mask,
             ..
-        } => with_context(contexts, vtl, compatibility_mask),
-        IgvmDirectiveHeader::AArch64VbsVpContext {
+        }
+        | IgvmDirectiveHeader::AArch64VbsVpContext {
             vtl,
             compatibility_mask,
             ..
@@ -112,13 +115,14 @@ fn contexts_after(contexts: [u32; 3], h: IgvmDirectiveHeader) -> [u32; 3]
     }
 }
 
+#[tactic(auto, unfolding(crate::specs::Record::lacks_context))]
 pub fn lacks_context(contexts: [u32; 3], r: Region) -> bool
     ensures { result ≡ lacks_context contexts r }
 {
     contexts::lacks(&contexts, r.mask, r.vp_index, r.vtl)
 }
 
-// ---- areas: how a row names an area (0 allocates, 1 uses, 2 inserts, 3 names none), and which
+// ---- areas
 
 pub fn is_parameter(kind: u32) -> bool
     ensures { result ≡ is_parameter kind }
@@ -126,55 +130,66 @@ pub fn is_parameter(kind: u32) -> bool
     (34 <= kind) & (kind <= 43)
 }
 
+// How a row names an area, and which.
 #[derive(Clone, Copy)]
-pub struct AreaName {
-    pub how: u8,
-    pub area: u32,
+pub enum AreaName {
+    Allocates(u32),
+    Uses(u32),
+    Inserts(u32),
+    NoArea,
 }
 
+impl AreaName {
+    // A row that names an area so allocates this one.
+    pub fn allocates(self, area: u32) -> bool
+        ensures { result ≡ (eqb (how self) 0 && eqb area (area_number (area_in self))) }
+    {
+        match self {
+            AreaName::Allocates(named) => area == named,
+            _ => false,
+        }
+    }
+
+    // A row that names an area so inserts this one.
+    pub fn inserts(self, area: u32) -> bool
+        ensures { result ≡ (eqb (how self) 2 && eqb area (area_number (area_in self))) }
+    {
+        match self {
+            AreaName::Inserts(named) => area == named,
+            _ => false,
+        }
+    }
+}
+
+#[tactic(auto, using(crate::proofs::DirectiveRecordLaws::parameter_least), unfolding(crate::specs::Record::how_named, directive_header::specs::Fields::area_named, igvm_defs::specs::Kinds::kind_of, igvm_defs::specs::Kinds::spans))]
 pub fn naming(kind: u32, body: &[u8]) -> AreaName
     requires { (kind_of kind).least ≤ length body.now }
-    ensures { (result.how ≡ how_named kind) × (result.area ≡ area_number (area_named kind body.now)) }
+    ensures { (how result ≡ how_named kind) × (area_in result ≡ area_named kind body.now) }
 {
-    if kind == 33 {
-        let area = le::u32_at(body, 8);
-        return AreaName { how: 0, area };
+    match kind {
+        33 => AreaName::Allocates(le::u32_at(body, 8)),
+        34..=43 => AreaName::Uses(le::u32_at(body, 0)),
+        50 => AreaName::Inserts(le::u32_at(body, 12)),
+        _ => AreaName::NoArea,
     }
-    if is_parameter(kind) {
-        let area = le::u32_at(body, 0);
-        return AreaName { how: 1, area };
-    }
-    if kind == 50 {
-        let area = le::u32_at(body, 12);
-        return AreaName { how: 2, area };
-    }
-    AreaName { how: 3, area: 0 }
 }
 
 // ---- one row more
 
-#[derive(Clone, Copy)]
-pub struct DirectiveStep {
-    pub contexts: [u32; 3],
-    pub fault: Fault,
-}
-
-// The row's fault, and the contexts' masks with the row. The rows before it tell whether its area is bad; the regions, whether it inserts into a page table.
+// The contexts' masks with the row's, or its fault. The rows before it tell whether its area is bad; the regions, whether it inserts into a page table.
+#[tactic(auto, unfolding(rules::specs::Directives::directive_fault, rules::specs::Directives::own_directive_fault, igvm_defs::specs::Refusals::is_fault))]
 pub fn step(
     contexts: [u32; 3],
     arch: Arch,
     bad: bool,
     inside: bool,
     h: IgvmDirectiveHeader,
-) -> DirectiveStep
-    ensures { (is : Rows IgvmInitializationHeader) (xs : Rows IgvmDirectiveHeader) (i : ℕ) → h ≡ xs.row i → bad ≡ bad_area (before i xs) h → inside ≡ inside_table is h → HoldsContexts contexts (before i xs) → DirectiveStepped arch is xs i result.fault result.contexts }
+) -> Result<[u32; 3], Fault>
+    ensures { (is : Rows IgvmInitializationHeader) (xs : Rows IgvmDirectiveHeader) (i : ℕ) → h ≡ xs.row i → bad ≡ bad_area (before i xs) h → inside ≡ inside_table is h → HoldsContexts contexts (before i xs) → DirectiveStepped arch is xs i result }
 {
-    let fault = igvm_defs::or_fault(validate(h), arch_fault(arch, h))
-        .or(32, 0, bad)
-        .or(33, 0, inside);
-    let next = contexts_after(contexts, h);
-    DirectiveStep {
-        contexts: next,
-        fault,
-    }
+    validate(h)?;
+    arch_check(arch, h)?;
+    igvm_defs::refuse_if(bad, 32, 0)?;
+    igvm_defs::refuse_if(inside, 33, 0)?;
+    Ok(contexts_after(contexts, h))
 }

@@ -2,9 +2,10 @@
 #![tactic(auto)]
 
 ghost use Rattle.std.specs.Prelude.{◌≡◌, ◌≤◌, length};
-ghost use Rattle.igvm_defs.specs.Kinds.{kind_of, directive_list};
+ghost use Rattle.igvm_defs.specs.Kinds.{directive_list};
 ghost use Rattle.directive_header.specs.Directives.{directive_of, page_data_of, parameter_area_of, parameter_of, required_memory_of, snp_vp_context_of, x64_native_vp_context_of, x64_vbs_vp_context_of, aarch64_vbs_vp_context_of, aarch64_cca_vp_context_of, parameter_insert_of, error_range_of, snp_id_block_of, vbs_measurement_of};
 
+use header::Header;
 use igvm_defs::Vtl;
 
 #[derive(Clone, Copy)]
@@ -237,34 +238,36 @@ fn vbs_measurement(b: &[u8]) -> IgvmDirectiveHeader
     }
 }
 
-// The header that a row's kind and body say.
-pub fn decode(kind: u32, body: &[u8]) -> IgvmDirectiveHeader
-    requires kind_value { (kind_of kind).list ≡ directive_list }
-    requires kind_in_bounds { (kind_of kind).least ≤ length body.now }
-    ensures { result ≡ directive_of kind body.now }
-{
-    match kind {
-        32 => page_data(body),
-        33 => parameter_area(body),
-        34 => IgvmDirectiveHeader::VpCount(parameter(body)),
-        35 => IgvmDirectiveHeader::EnvironmentInfo(parameter(body)),
-        36 => IgvmDirectiveHeader::Srat(parameter(body)),
-        37 => IgvmDirectiveHeader::Madt(parameter(body)),
-        38 => IgvmDirectiveHeader::Slit(parameter(body)),
-        39 => IgvmDirectiveHeader::Pptt(parameter(body)),
-        40 => IgvmDirectiveHeader::MmioRanges(parameter(body)),
-        41 => IgvmDirectiveHeader::MemoryMap(parameter(body)),
-        42 => IgvmDirectiveHeader::CommandLine(parameter(body)),
-        43 => IgvmDirectiveHeader::DeviceTree(parameter(body)),
-        44 => required_memory(body),
-        45 => snp_vp_context(body),
-        46 => x64_native_vp_context(body),
-        47 => x64_vbs_vp_context(body),
-        48 => aarch64_vbs_vp_context(body),
-        49 => aarch64_cca_vp_context(body),
-        50 => parameter_insert(body),
-        51 => error_range(body),
-        52 => snp_id_block(body),
-        _ => vbs_measurement(body),
+impl Header for IgvmDirectiveHeader {
+    ghost list = { directive_list };
+
+    ghost header_of = { directive_of };
+
+    #[tactic(auto, unfolding(igvm_defs::specs::Kinds::kind_of, igvm_defs::specs::Kinds::spans, crate::specs::Directives::directive_of))]
+    fn decode(kind: u32, body: &[u8]) -> IgvmDirectiveHeader {
+        match kind {
+            32 => page_data(body),
+            33 => parameter_area(body),
+            34 => IgvmDirectiveHeader::VpCount(parameter(body)),
+            35 => IgvmDirectiveHeader::EnvironmentInfo(parameter(body)),
+            36 => IgvmDirectiveHeader::Srat(parameter(body)),
+            37 => IgvmDirectiveHeader::Madt(parameter(body)),
+            38 => IgvmDirectiveHeader::Slit(parameter(body)),
+            39 => IgvmDirectiveHeader::Pptt(parameter(body)),
+            40 => IgvmDirectiveHeader::MmioRanges(parameter(body)),
+            41 => IgvmDirectiveHeader::MemoryMap(parameter(body)),
+            42 => IgvmDirectiveHeader::CommandLine(parameter(body)),
+            43 => IgvmDirectiveHeader::DeviceTree(parameter(body)),
+            44 => required_memory(body),
+            45 => snp_vp_context(body),
+            46 => x64_native_vp_context(body),
+            47 => x64_vbs_vp_context(body),
+            48 => aarch64_vbs_vp_context(body),
+            49 => aarch64_cca_vp_context(body),
+            50 => parameter_insert(body),
+            51 => error_range(body),
+            52 => snp_id_block(body),
+            _ => vbs_measurement(body),
+        }
     }
 }

@@ -1,13 +1,15 @@
 -- What the kept directive rows tell of areas: the rule (32) by what is known of a row's area, and what is known after one row more.
-use Rattle.rows.{proofs.Kit.{◌≡◌, refl, sym, ap, ◌∙◌, Bool, true, false, not, cond, ◌&&◌, ◌||◌, and-false, or-false, false≢true, ◌≢◌, ◌⊎◌, inl, inr, List, ℕ, zero, suc, arith, eqb, eq-eqb, eqb-true, eqb-false}, specs.Below.any_below, specs.Rows.{Rows, any, more}, proofs.Bools.{which, is_false, not_both, or_left, or_cases, and_parts}, proofs.SameLaws.any_added}
+use Rattle.rows.{proofs.Kit.{◌≡◌, refl, sym, ap, ◌∙◌, Bool, true, false, not, cond, ◌&&◌, ◌||◌, and-false, or-false, false≢true, inl, inr, List, ℕ, zero, suc, eqb, eq-eqb, eqb-true, eqb-false}, specs.Below.any_below, specs.Rows.{Rows, any, more}, proofs.Bools.{which, is_false, not_both, or_left, or_cases, and_parts}, proofs.SameLaws.any_added}
 use Rattle.igvm_defs.{specs.declared.Arch.Arch, specs.Refusals.is_fault}
 use Rattle.initialization_header.specs.declared.IgvmInitializationHeader.{IgvmInitializationHeader}
 use Rattle.directive_header.specs.{declared.IgvmDirectiveHeader.IgvmDirectiveHeader, Fields.area_of}
 use Rattle.rules.{specs.Directives.{allocates, inserts, bad_area, directive_fault}, specs.Kept.{kept_below, fault_of}, proofs.Acceptance.directive_says, proofs.KeptLaws.{kept_skipped, kept_taken}}
+use denote.Enum.Bare.{sameb}
+use Rattle.area_table.specs.{contracts.AreaState.the_type, declared.AreaState.AreaState, declared.AreaState.TheVariants.{Nothing, Allocated, Inserted}, States.state_code}
 use Rattle.area_table.{specs.AreaTable.{HoldsAreas, state_in}}
-use Rattle.directive_check.{specs.Record.{how_of, area_number}, proofs.DirectiveRecordLaws.{allocates_says, inserts_says, bad_area_says}}
+use Rattle.directive_check.{specs.declared.AreaName.AreaName, specs.declared.AreaName.TheVariants.{Allocates, Uses, Inserts, NoArea}, specs.Record.{how_of, area_number, how, area_in, Names}, proofs.DirectiveRecordLaws.{allocates_says, inserts_says, bad_area_says}}
 use Rattle.directive_row.specs.Row.{area_state, state_of}
-use Rattle.directive_report.specs.Reported.{bad_in, state_next}
+use Rattle.directive_report.specs.Reported.{bad_in, state_next, said, after_row}
 
 -- the area that a header names; 0 where it names none
 abbrev pub area_at : IgvmDirectiveHeader → ℕ
@@ -71,17 +73,6 @@ bad_state ks h S =
 
 -- ---- what is known after one row more
 
-state_three : (a i : Bool) → area_state a i ≢ 3
-state_three true true e = omega arith
-state_three true false e = omega arith
-state_three false true e = omega arith
-state_three false false e = omega arith
-
--- the state is never the one that stands for "can't tell"
-pub state_told : (ks : Rows IgvmDirectiveHeader) (x : ℕ) → state_of ks x ≢ 3
-unfolding state_of
-state_told ks x = state_three (any (allocates x) ks) (any (inserts x) ks)
-
 or_true : (b : Bool) → (b || true) ≡ true
 or_true true = refl
 or_true false = refl
@@ -116,7 +107,57 @@ state_more ks h x S good =
     go true e false f false g = rw (or-false a, or-false i)
     go false e z f w g = rw (and-false z, and-false w, or-false a, or-false i)
 
+-- ---- a row by the name that it gives its area
+
+either_way : (b : Bool) (n : ℕ) → cond b n n ≡ n
+either_way true n = refl
+either_way false n = refl
+
+pub named_bad : (ks : Rows IgvmDirectiveHeader) (h : IgvmDirectiveHeader) (name : AreaName) → Names name h → Sound ks
+    → bad_in (how name) (said (state_of ks) (area_in name)) ≡ bad_area ks h
+unfolding bad_in
+named_bad ks h name (w, a) S = go name (sym w) (sym a)
+  where
+    go : (n : AreaName) → how_of h ≡ how n → area_of h ≡ area_in n → bad_in (how n) (said (state_of ks) (area_in n)) ≡ bad_area ks h
+    go (Allocates b) w a = rw (w, a) at (bad_state ks h S)
+    go (Uses b) w a = rw (w, a) at (bad_state ks h S)
+    go (Inserts b) w a = rw (w, a) at (bad_state ks h S)
+    go NoArea w a = rw w at (bad_state ks h S)
+
+pub named_more : (ks : Rows IgvmDirectiveHeader) (h : IgvmDirectiveHeader) (name : AreaName) (x : ℕ) → Names name h → Sound ks → bad_area ks h ≡ false
+    → after_row name (state_of ks) x ≡ state_of (more ks h) x
+unfolding state_next
+named_more ks h name x (w, a) S good = sym (state_more ks h x S good ∙ go name (sym w) (sym a))
+  where
+    go : (n : AreaName) → how_of h ≡ how n → area_of h ≡ area_in n
+        → cond (eqb x (area_at h)) (state_next (how_of h) (state_of ks x)) (state_of ks x) ≡ after_row n (state_of ks) x
+    go (Allocates b) w a = rw (w, a)
+    go (Uses b) w a = rw (w, a)
+    go (Inserts b) w a = rw (w, a)
+    go NoArea w a = rw (w, a) (either_way (eqb x 0) (state_of ks x))
+
+-- ---- states
+
+-- states differ where their numbers do
+pub not_nothing : (s : AreaState) → not (sameb the_type s Nothing) ≡ not (eqb (state_code s) 0)
+not_nothing Nothing = refl
+not_nothing Allocated = refl
+not_nothing Inserted = refl
+
+pub not_allocated : (s : AreaState) → not (sameb the_type s Allocated) ≡ not (eqb (state_code s) 1)
+not_allocated Nothing = refl
+not_allocated Allocated = refl
+not_allocated Inserted = refl
+
 -- ---- the table
+
+-- a row that allocates or inserts no area changes none
+pub unchanged : (name : AreaName) (f : ℕ → ℕ) → (eqb (how name) 1 || eqb (how name) 3) ≡ true → (x : ℕ) → f x ≡ after_row name f x
+unfolding state_next
+unchanged (Allocates b) f e x = absurd (false≢true e)
+unchanged (Uses b) f e x = sym (either_way (eqb x b) (f x))
+unchanged (Inserts b) f e x = absurd (false≢true e)
+unchanged NoArea f e x = refl
 
 module _ (few links areas states : List ℕ) (f : ℕ → ℕ) (area from to : ℕ) where
   -- where the table can't tell of the area, it holds whatever becomes known of it
@@ -143,13 +184,3 @@ module _ (few links areas states : List ℕ) (f : ℕ → ℕ) (area from to : �
       unknown true q = eqb-true (state_in few links areas states area) 3 q
       unknown false q =
           absurd (false≢true (e ∙ eq-eqb (state_in few links areas states area) from (H.told area (eqb-false (state_in few links areas states area) 3 q) ∙ known)))
-
--- a row that changes no area
-pub unchanged : (how area state : ℕ) (f : ℕ → ℕ) → f area ≡ state → (eqb how 1 || eqb how 3) ≡ true → (x : ℕ) → f x ≡ cond (eqb x area) (state_next how state) (f x)
-unfolding state_next
-unchanged how area state f known e x = go (eqb x area) refl (or_cases (eqb how 1) (eqb how 3) e)
-  where
-    go : (b : Bool) → eqb x area ≡ b → (eqb how 1 ≡ true) ⊎ (eqb how 3 ≡ true) → f x ≡ cond b (cond (eqb how 0) 1 (cond (eqb how 2) 2 state)) (f x)
-    go true q (inl h) = rw (eqb-true how 1 h, eqb-true x area q) known
-    go true q (inr h) = rw (eqb-true how 3 h, eqb-true x area q) known
-    go false q h = refl

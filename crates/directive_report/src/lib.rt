@@ -1,226 +1,172 @@
 // The report on the directive rows of a readable sheet: the word of each row, judged after the rows kept before it, and whether a kept region has no context (34).
 #![tactic(auto)]
 
-ghost use Rattle.std.specs.Prelude.{◌≡◌, cond, ◌≢◌, ℕ, ◌+◌, ◌*◌, ◌<◌, ◌≤◌, eqb, length};
+ghost use Rattle.std.specs.Prelude.{◌≡◌, cond, ℕ, ◌+◌, ◌*◌, ◌<◌, ◌≤◌, length};
 ghost use Rattle.lent.specs.Lent.{words_put};
-ghost use Rattle.igvm_defs.specs.declared.Arch.{Arch};
-ghost use Rattle.sheet.specs.Head.{initialization_rows, limits, head_of, first_directive};
-ghost use Rattle.sheet.specs.Read.{Readable};
+ghost use Rattle.sheet.specs.Head.{head_of, first_directive};
 ghost use Rattle.sheet.specs.Walk.{cursor_at};
 ghost use Rattle.sheet_headers.specs.Headers.{sheet_headers};
 ghost use Rattle.rules.specs.Report.{kept_initializations, kept_directives, faulty_directives, report_word, report_no_context};
 ghost use Rattle.initialization_check.specs.Record.{HoldsRegions};
-ghost use Rattle.clashes.specs.Clashes.{HoldsTables};
-ghost use Rattle.directive_check.specs.Record.{HoldsContexts, how_of, area_number};
-ghost use Rattle.directive_header.specs.Fields.{area_of};
-ghost use Rattle.area_table.specs.AreaTable.{Tree, HoldsAreas};
+ghost use Rattle.directive_check.specs.Record.{HoldsContexts, how, area_in};
+ghost use Rattle.area_table.specs.States.{state_code};
+ghost use Rattle.area_table.specs.Table.{Knows};
 ghost use Rattle.directive_row.specs.Row.{area_state, state_of};
-ghost use Rattle.directive_report.specs.Reported.{bad_in, state_next, kept_to, RowReported, WordsTo};
+ghost use Rattle.directive_report.specs.Reported.{bad_in, kept_to, said, after_row, RowReported, WordsTo};
 
+use area_table::{AreaState, AreaTable};
 use directive_check::AreaName;
-use igvm_defs::{Arch, Fault};
-use initialization_check::RelocRegions;
-use sheet::{Cursor, SheetHead};
+use igvm_defs::Arch;
+use reloc_regions::RelocRegions;
+use sheet::{Cursor, ReadableSheet, SheetHead};
 
 // ---- what is known of an area
 
-fn area_state(allocated: bool, inserted: bool) -> u8
-    ensures { result ≡ area_state allocated inserted }
+fn area_state(allocated: bool, inserted: bool) -> AreaState
+    ensures { state_code result ≡ area_state allocated inserted }
 {
     if inserted {
-        return area_table::INSERTED;
+        return AreaState::Inserted;
     }
     if allocated {
-        return area_table::ALLOCATED;
+        return AreaState::Allocated;
     }
-    area_table::NOTHING
-}
-
-// How directive row i, at the cursor, names an area, and which.
-fn naming_at(s: &[u8], c: Cursor, i: usize) -> AreaName
-    requires { Readable limits s.now × (c ≡ cursor_at s.now (first_directive s.now + i)) × (i < (head_of s.now).directives) }
-    ensures { (result.how ≡ how_of ((sheet_headers s.now).directives.row i)) × (result.area ≡ area_number (area_of ((sheet_headers s.now).directives.row i))) }
-{
-    let row = sheet_reader::cursor_row(s, c);
-    directive_check::naming(row.kind, sheet_reader::cursor_body(s, c))
+    AreaState::Nothing
 }
 
 // By the rows kept among the first n directive rows, which are read again: a row is kept where its word is 0.
-fn kept_state(s: &[u8], head: SheetHead, words: &[u8], n: usize, area: u32) -> u8
-    requires { Readable limits s.now × (head ≡ head_of s.now) × (n ≤ (head_of s.now).directives) × WordsTo s.now words.now n }
-    ensures { result ≡ state_of (kept_to s.now n) area }
+#[tactic(auto, using(crate::proofs::DirectiveReport::allocated_next, crate::proofs::DirectiveReport::inserted_next, crate::proofs::DirectiveReport::state_kept, sheet::proofs::Readable::readable_bounds))]
+fn kept_state(s: &ReadableSheet<'_>, words: &[u8], n: usize, area: u32) -> AreaState
+    requires { (n ≤ (head_of s.now.bytes.now).directives) × WordsTo s.now.bytes.now words.now n }
+    ensures { state_code result ≡ state_of (kept_to s.now.bytes.now n) area }
 {
-    let first = (head.platforms as usize) + (head.initializations as usize);
+    let first = (s.head.platforms as usize) + (s.head.initializations as usize);
     let mut c = sheet_reader::cursor_at(s, first);
     let mut allocated = false;
     let mut inserted = false;
-    let mut i = 0;
-    while i < n {
-        let name = naming_at(s, c, i);
-        let same = (le::u64_at(words, 8 * (first + i)) == 0) & (area == name.area);
-        allocated = allocated | ((name.how == 0) & same);
-        inserted = inserted | ((name.how == 2) & same);
-        c = sheet_reader::cursor_row(s, c).next;
-        i += 1;
+    for i in 0..n {
+        let row = directive_pass::named_row(s, c, i);
+        let kept = le::u64_at(words, 8 * (first + i)) == 0;
+        allocated = allocated | (kept & row.name.allocates(area));
+        inserted = inserted | (kept & row.name.inserts(area));
+        c = row.next;
     }
     area_state(allocated, inserted)
 }
 
 // By the table, or, where it can't tell, by the kept rows.
-fn state_of(
-    s: &[u8],
-    head: SheetHead,
+#[tactic(auto, using(area_table::proofs::StateLaws::told_code, area_table::proofs::StateLaws::code_small))]
+fn state_of<const LINKS: usize, const NODES: usize>(
+    s: &ReadableSheet<'_>,
     words: &[u8],
     n: usize,
-    few: &[u8; area_table::FEW],
-    links: &[u16],
-    areas: &[u32],
-    states: &[u8],
+    areas: &AreaTable<LINKS, NODES>,
     area: u32,
-) -> u8
-    requires readable { Readable limits s.now × (head ≡ head_of s.now) × (n ≤ (head_of s.now).directives) × WordsTo s.now words.now n }
-    requires holds_areas { HoldsAreas few.now links.now areas.now states.now (state_of (kept_to s.now n)) }
-    ensures { result ≡ state_of (kept_to s.now n) area }
+) -> AreaState
+    requires readable { (n ≤ (head_of s.now.bytes.now).directives) × WordsTo s.now.bytes.now words.now n }
+    requires knows { Knows areas.now (state_of (kept_to s.now.bytes.now n)) }
+    ensures { state_code result ≡ state_of (kept_to s.now.bytes.now n) area }
 {
-    let state = area_table::state_of(few, links, areas, states, area);
-    if state == area_table::UNTOLD {
-        return kept_state(s, head, words, n, area);
+    match areas.state_of(area) {
+        Some(state) => state,
+        None => kept_state(s, words, n, area),
     }
-    state
+}
+
+// The same of the area that a row names; where it names none, nothing is known.
+fn state_named<const LINKS: usize, const NODES: usize>(
+    s: &ReadableSheet<'_>,
+    words: &[u8],
+    n: usize,
+    areas: &AreaTable<LINKS, NODES>,
+    name: AreaName,
+) -> AreaState
+    requires readable { (n ≤ (head_of s.now.bytes.now).directives) × WordsTo s.now.bytes.now words.now n }
+    requires knows { Knows areas.now (state_of (kept_to s.now.bytes.now n)) }
+    ensures { state_code result ≡ said (state_of (kept_to s.now.bytes.now n)) (area_in name) }
+{
+    match name {
+        AreaName::Allocates(area) | AreaName::Uses(area) | AreaName::Inserts(area) => {
+            state_of(s, words, n, areas, area)
+        }
+        AreaName::NoArea => AreaState::Nothing,
+    }
 }
 
 // 32: a row that names an area in this way, where this is known of the area.
-fn bad_in(how: u8, state: u8) -> bool
-    ensures { result ≡ bad_in how state }
+#[tactic(auto, using(crate::proofs::AreaLaws::not_nothing, crate::proofs::AreaLaws::not_allocated), unfolding(crate::specs::Reported::bad_in))]
+fn bad_in(name: AreaName, state: AreaState) -> bool
+    ensures { result ≡ bad_in (how name) (state_code state) }
 {
-    if how == 3 {
-        return false;
+    match name {
+        AreaName::Allocates(_) => state != AreaState::Nothing,
+        AreaName::Uses(_) | AreaName::Inserts(_) => state != AreaState::Allocated,
+        AreaName::NoArea => false,
     }
-    if how == 0 {
-        return state != area_table::NOTHING;
-    }
-    state != area_table::ALLOCATED
 }
 
-// What is known of the area after such a row.
-fn state_next(how: u8, state: u8) -> u8
-    ensures { result ≡ state_next how state }
-{
-    if how == 0 {
-        return area_table::ALLOCATED;
-    }
-    if how == 2 {
-        return area_table::INSERTED;
-    }
-    state
-}
-
-// The table after the row: as it was, where the row is faulty or changes no area.
-fn keep_area(
-    few: &mut [u8; area_table::FEW],
-    links: &mut [u16],
-    areas: &mut [u32],
-    states: &mut [u8],
-    faulty: bool,
-    how: u8,
-    area: u32,
-    state: u8,
+// The table after a kept row that names its area so, of which this is known.
+fn keep_area<const LINKS: usize, const NODES: usize>(
+    areas: &mut AreaTable<LINKS, NODES>,
+    name: AreaName,
+    state: AreaState,
 )
-    requires { Tree links.old areas.old states.old × (state ≢ 3) }
-    ensures { (f : ℕ → ℕ) → f area ≡ state → HoldsAreas few.old links.old areas.old states.old f → HoldsAreas few.new links.new areas.new states.new (λ x. cond faulty (f x) (cond (eqb x area) (state_next how state) (f x))) }
+    ensures { (f : ℕ → ℕ) → said f (area_in name) ≡ state_code state → Knows areas.old f → Knows areas.new (after_row name f) }
 {
-    if faulty {
-        return;
+    match name {
+        AreaName::Allocates(area) => {
+            areas.change(area, state, AreaState::Allocated);
+        }
+        AreaName::Inserts(area) => {
+            areas.change(area, state, AreaState::Inserted);
+        }
+        AreaName::Uses(_) | AreaName::NoArea => {}
     }
-    if (how == 1) | (how == 3) {
-        return;
-    }
-    area_table::change(
-        few,
-        links,
-        areas,
-        states,
-        area,
-        state,
-        state_next(how, state),
-    );
 }
 
 // ---- one row
 
-// The masks of the contexts that are kept.
-#[derive(Clone, Copy)]
-struct KeptContexts {
-    masks: [u32; 3],
-}
-
-// Without the row's, where the row is faulty.
-fn kept_contexts(faulty: bool, old: [u32; 3], new: [u32; 3]) -> KeptContexts
-    ensures { result.masks ≡ cond faulty old new }
-{
-    if faulty {
-        return KeptContexts { masks: old };
-    }
-    KeptContexts { masks: new }
-}
-
-// What the report says of a row, the masks of the contexts kept with it, and the row after it.
+// The word that the report writes for a row, the masks of the contexts kept with it, and the row after it.
 #[derive(Clone, Copy)]
 struct RowReport {
-    fault: Fault,
+    word: u64,
     contexts: [u32; 3],
     next: Cursor,
 }
 
-// Directive row i, at the cursor, after the rows kept before it. The first `held` regions of the arrays are those of the kept initialization rows.
-fn report_row<'a>(
-    s: &'a [u8],
-    head: SheetHead,
+// Directive row i, at the cursor, after the rows kept before it. The regions are those of the kept initialization rows.
+fn report_row<const LINKS: usize, const NODES: usize>(
+    s: &ReadableSheet<'_>,
     arch: Arch,
     c: Cursor,
     i: usize,
-    masks: &'a [u32; SheetHead::INITIALIZATION_ROWS],
-    gpas: &'a [u64; SheetHead::INITIALIZATION_ROWS],
-    sizes: &'a [u64; SheetHead::INITIALIZATION_ROWS],
-    tables: &'a [bool; SheetHead::INITIALIZATION_ROWS],
-    held: usize,
+    held: &RelocRegions<{ SheetHead::INITIALIZATION_ROWS }>,
     contexts: [u32; 3],
-    few: &mut [u8; area_table::FEW],
-    links: &mut [u16],
-    areas: &mut [u32],
-    states: &mut [u8],
+    areas: &mut AreaTable<LINKS, NODES>,
     words: &[u8],
 ) -> RowReport
-    requires readable { Readable limits s.now × (head ≡ head_of s.now) × (arch ≡ (sheet_headers s.now).arch) × (c ≡ cursor_at s.now (first_directive s.now + i)) × (i < (head_of s.now).directives) × WordsTo s.now words.now i }
-    requires held_le_initialization_rows { (held ≤ initialization_rows) × HoldsTables masks.now gpas.now sizes.now tables.now held (kept_initializations (sheet_headers s.now)) }
-    requires holds_contexts { HoldsContexts contexts (kept_to s.now i) × HoldsAreas few.old links.old areas.old states.old (state_of (kept_to s.now i)) }
-    ensures { RowReported s.now i result.fault result.contexts result.next few.new links.new areas.new states.new }
+    requires readable { (arch ≡ (sheet_headers s.now.bytes.now).arch) × (c ≡ cursor_at s.now.bytes.now (first_directive s.now.bytes.now + i)) × (i < (head_of s.now.bytes.now).directives) × WordsTo s.now.bytes.now words.now i }
+    requires regions { HoldsRegions held.now (kept_initializations (sheet_headers s.now.bytes.now)) }
+    requires known { HoldsContexts contexts (kept_to s.now.bytes.now i) × Knows areas.old (state_of (kept_to s.now.bytes.now i)) }
+    ensures { RowReported s.now.bytes.now i result.word result.contexts result.next areas.new }
 {
-    let name = naming_at(s, c, i);
-    let state = state_of(s, head, words, i, few, links, areas, states, name.area);
-    let row = directive_pass::validate_row(
-        s,
-        c,
-        arch,
-        masks,
-        gpas,
-        sizes,
-        tables,
-        held,
-        contexts,
-        bad_in(name.how, state),
-    );
-    let fault = row.fault;
-    let next = row.contexts;
-    let wrong = fault.is_fault();
-    keep_area(few, links, areas, states, wrong, name.how, name.area, state);
-    let kept = kept_contexts(wrong, contexts, next);
-    let masks = kept.masks;
-    let after = row.next;
-    RowReport {
-        fault,
-        contexts: masks,
-        next: after,
+    let name = directive_pass::named_row(s, c, i).name;
+    let state = state_named(s, words, i, areas, name);
+    let row = directive_pass::validate_row(s.bytes, c, arch, held, contexts, bad_in(name, state));
+    match row.contexts {
+        Ok(kept) => {
+            keep_area(areas, name, state);
+            RowReport {
+                word: 0,
+                contexts: kept,
+                next: row.next,
+            }
+        }
+        Err(fault) => RowReport {
+            word: fault.number,
+            contexts,
+            next: row.next,
+        },
     }
 }
 
@@ -233,51 +179,32 @@ struct RowsReport {
     faulty: usize,
 }
 
-// 21, 22, 24 and 30 to 33 of each directive row, with a table of areas in which nothing is known.
-fn report_rows<'a>(
-    s: &'a [u8],
-    head: SheetHead,
-    masks: &'a [u32; SheetHead::INITIALIZATION_ROWS],
-    gpas: &'a [u64; SheetHead::INITIALIZATION_ROWS],
-    sizes: &'a [u64; SheetHead::INITIALIZATION_ROWS],
-    tables: &'a [bool; SheetHead::INITIALIZATION_ROWS],
-    held: usize,
-    few: &mut [u8; area_table::FEW],
-    links: &mut [u16],
-    areas: &mut [u32],
-    states: &mut [u8],
+// 21, 22, 24 and 30 to 33 of each directive row, with a table of areas of these sizes.
+fn report_rows<const LINKS: usize, const NODES: usize>(
+    s: &ReadableSheet<'_>,
+    held: &RelocRegions<{ SheetHead::INITIALIZATION_ROWS }>,
     words: &mut [u8],
 ) -> RowsReport
-    requires readable { Readable limits s.now × (head ≡ head_of s.now) × (8 * (first_directive s.now + (head_of s.now).directives) ≤ length words.old) }
-    requires held_le_initialization_rows { (held ≤ initialization_rows) × HoldsTables masks.now gpas.now sizes.now tables.now held (kept_initializations (sheet_headers s.now)) }
-    requires holds_areas { HoldsAreas few.old links.old areas.old states.old (λ _. 0) }
-    ensures holds_contexts { HoldsContexts result.contexts (kept_directives (sheet_headers s.now)) × (result.faulty ≡ faulty_directives (sheet_headers s.now)) }
-    ensures words_after { words.new ≡ words_put (first_directive s.now) (head_of s.now).directives (report_word (sheet_headers s.now)) words.old }
+    requires readable { HoldsRegions held.now (kept_initializations (sheet_headers s.now.bytes.now)) × (8 * (first_directive s.now.bytes.now + (head_of s.now.bytes.now).directives) ≤ length words.old) }
+    requires sizes { (LINKS ≡ 1024 + 2 * NODES) × (0 < NODES) × (NODES ≤ 65536) }
+    ensures holds_contexts { HoldsContexts result.contexts (kept_directives (sheet_headers s.now.bytes.now)) × (result.faulty ≡ faulty_directives (sheet_headers s.now.bytes.now)) }
+    ensures words_after { words.new ≡ words_put (first_directive s.now.bytes.now) (head_of s.now.bytes.now).directives (report_word (sheet_headers s.now.bytes.now)) words.old }
 {
-    let first = (head.platforms as usize) + (head.initializations as usize);
-    let n = head.directives as usize;
-    let arch = head.revision().arch();
+    let first = (s.head.platforms as usize) + (s.head.initializations as usize);
+    let arch = s.head.revision().arch();
+    let mut areas = AreaTable::<LINKS, NODES>::new();
     let mut c = sheet_reader::cursor_at(s, first);
     let mut contexts: [u32; 3] = [0; 3];
     let mut faulty = 0;
-    let mut i = 0;
-    while i < n {
-        let row = report_row(
-            s, head, arch, c, i, masks, gpas, sizes, tables, held, contexts, few, links, areas,
-            states, words,
-        );
-        let fault = row.fault;
-        let kept = row.contexts;
-        contexts = kept;
-        lent::put_word(words, first + i, fault.number);
-        faulty += fault.is_fault() as usize;
+    for i in 0..s.head.directives as usize {
+        let row = report_row(s, arch, c, i, held, contexts, &mut areas, words);
+        contexts = row.contexts;
+        lent::put_word(words, first + i, row.word);
+        faulty += (row.word != 0) as usize;
         c = row.next;
-        i += 1;
     }
     RowsReport { contexts, faulty }
 }
-
-// ---- with a table of areas as large as the rows ask for
 
 // Up to so many directive rows, reading the rows before a row again takes less time than clearing a large table.
 const FEW_ROWS: u16 = 64;
@@ -287,75 +214,20 @@ const NO_NODES: usize = 1;
 
 const NO_LINKS: usize = 1026;
 
-fn report_few_rows(s: &[u8], head: SheetHead, regions: RelocRegions, words: &mut [u8]) -> RowsReport
-    requires { Readable limits s.now × (head ≡ head_of s.now) × HoldsRegions regions (kept_initializations (sheet_headers s.now)) × (8 * (first_directive s.now + (head_of s.now).directives) ≤ length words.old) }
-    ensures holds_contexts { HoldsContexts result.contexts (kept_directives (sheet_headers s.now)) × (result.faulty ≡ faulty_directives (sheet_headers s.now)) }
-    ensures words_after { words.new ≡ words_put (first_directive s.now) (head_of s.now).directives (report_word (sheet_headers s.now)) words.old }
-{
-    let mut few: [u8; area_table::FEW] = [0; area_table::FEW];
-    let mut links: [u16; NO_LINKS] = [0; NO_LINKS];
-    let mut areas: [u32; NO_NODES] = [0; NO_NODES];
-    let mut states: [u8; NO_NODES] = [0; NO_NODES];
-    report_rows(
-        s,
-        head,
-        &regions.mask,
-        &regions.gpa,
-        &regions.size,
-        &regions.page_table,
-        regions.count,
-        &mut few,
-        &mut links,
-        &mut areas,
-        &mut states,
-        words,
-    )
-}
-
-fn report_many_rows(
-    s: &[u8],
-    head: SheetHead,
-    regions: RelocRegions,
-    words: &mut [u8],
-) -> RowsReport
-    requires { Readable limits s.now × (head ≡ head_of s.now) × HoldsRegions regions (kept_initializations (sheet_headers s.now)) × (8 * (first_directive s.now + (head_of s.now).directives) ≤ length words.old) }
-    ensures holds_contexts { HoldsContexts result.contexts (kept_directives (sheet_headers s.now)) × (result.faulty ≡ faulty_directives (sheet_headers s.now)) }
-    ensures words_after { words.new ≡ words_put (first_directive s.now) (head_of s.now).directives (report_word (sheet_headers s.now)) words.old }
-{
-    let mut few: [u8; area_table::FEW] = [0; area_table::FEW];
-    let mut links: [u16; area_table::LARGE_LINKS] = [0; area_table::LARGE_LINKS];
-    let mut areas: [u32; area_table::LARGE_NODES] = [0; area_table::LARGE_NODES];
-    let mut states: [u8; area_table::LARGE_NODES] = [0; area_table::LARGE_NODES];
-    report_rows(
-        s,
-        head,
-        &regions.mask,
-        &regions.gpa,
-        &regions.size,
-        &regions.page_table,
-        regions.count,
-        &mut few,
-        &mut links,
-        &mut areas,
-        &mut states,
-        words,
-    )
-}
-
+// With a table of areas as large as the rows ask for.
 fn report_with_table(
-    s: &[u8],
-    head: SheetHead,
-    regions: RelocRegions,
+    s: &ReadableSheet<'_>,
+    held: &RelocRegions<{ SheetHead::INITIALIZATION_ROWS }>,
     words: &mut [u8],
 ) -> RowsReport
-    requires { Readable limits s.now × (head ≡ head_of s.now) × HoldsRegions regions (kept_initializations (sheet_headers s.now)) × (8 * (first_directive s.now + (head_of s.now).directives) ≤ length words.old) }
-    ensures holds_contexts { HoldsContexts result.contexts (kept_directives (sheet_headers s.now)) × (result.faulty ≡ faulty_directives (sheet_headers s.now)) }
-    ensures words_after { words.new ≡ words_put (first_directive s.now) (head_of s.now).directives (report_word (sheet_headers s.now)) words.old }
+    requires { HoldsRegions held.now (kept_initializations (sheet_headers s.now.bytes.now)) × (8 * (first_directive s.now.bytes.now + (head_of s.now.bytes.now).directives) ≤ length words.old) }
+    ensures holds_contexts { HoldsContexts result.contexts (kept_directives (sheet_headers s.now.bytes.now)) × (result.faulty ≡ faulty_directives (sheet_headers s.now.bytes.now)) }
+    ensures words_after { words.new ≡ words_put (first_directive s.now.bytes.now) (head_of s.now.bytes.now).directives (report_word (sheet_headers s.now.bytes.now)) words.old }
 {
-    if head.directives <= FEW_ROWS {
-        return report_few_rows(s, head, regions, words);
+    if s.head.directives <= FEW_ROWS {
+        return report_rows::<NO_LINKS, NO_NODES>(s, held, words);
     }
-    report_many_rows(s, head, regions, words)
+    report_rows::<{ area_table::LARGE_LINKS }, { area_table::LARGE_NODES }>(s, held, words)
 }
 
 // Whether a kept region has no context, and how many rows are faulty.
@@ -366,20 +238,19 @@ pub struct DirectivesReport {
 }
 
 // 21, 22, 24 and 30 to 33 of each directive row, then 34 over the kept rows.
+#[tactic(auto, using(crate::proofs::DirectiveReport::lacks_told))]
 pub fn report_directive_headers(
-    s: &[u8],
-    head: SheetHead,
-    regions: RelocRegions,
+    s: &ReadableSheet<'_>,
+    regions: &RelocRegions<{ SheetHead::INITIALIZATION_ROWS }>,
     words: &mut [u8],
 ) -> DirectivesReport
-    requires { Readable limits s.now × (head ≡ head_of s.now) × HoldsRegions regions (kept_initializations (sheet_headers s.now)) × (8 * (first_directive s.now + (head_of s.now).directives) ≤ length words.old) }
-    ensures no_context_value { (result.no_context ≡ report_no_context (sheet_headers s.now)) × (result.faulty ≡ faulty_directives (sheet_headers s.now)) }
-    ensures words_after { words.new ≡ words_put (first_directive s.now) (head_of s.now).directives (report_word (sheet_headers s.now)) words.old }
+    requires { HoldsRegions regions.now (kept_initializations (sheet_headers s.now.bytes.now)) × (8 * (first_directive s.now.bytes.now + (head_of s.now.bytes.now).directives) ≤ length words.old) }
+    ensures no_context_value { (result.no_context ≡ report_no_context (sheet_headers s.now.bytes.now)) × (result.faulty ≡ faulty_directives (sheet_headers s.now.bytes.now)) }
+    ensures words_after { words.new ≡ words_put (first_directive s.now.bytes.now) (head_of s.now.bytes.now).directives (report_word (sheet_headers s.now.bytes.now)) words.old }
 {
-    let rows = report_with_table(s, head, regions, words);
-    let contexts = rows.contexts;
+    let rows = report_with_table(s, regions, words);
     DirectivesReport {
-        no_context: directive_pass::no_matching_vp_context(regions, contexts),
+        no_context: directive_pass::no_matching_vp_context(regions, rows.contexts),
         faulty: rows.faulty,
     }
 }

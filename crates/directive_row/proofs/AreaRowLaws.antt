@@ -1,13 +1,13 @@
 -- Rows that name an area: what is known of it tells the area rule, and what is known afterwards.
 use Rattle.rows.{proofs.Kit.{ℕ, ◌<◌, arith, ◌≡◌, refl, sym, ap, ◌∙◌, Bool, true, false, cond, not, ◌||◌, or-false, List, eqb, leb, length, leb-true, eqb-true}, specs.Rows.{Rows, any}, proofs.Bools.and_parts}
 use Rattle.le.specs.Le.{le_at}
-use Rattle.igvm_defs.{specs.declared.Arch.Arch, specs.declared.Kind.Kind, specs.Kinds.{kind_of, spans, length_ok, directive_list}, specs.Refusals.is_fault, proofs.Runs.{each, ◌⨾◌}}
+use Rattle.igvm_defs.{specs.declared.Arch.Arch, specs.Kinds.{Kind, kind_of, spans, length_ok, directive_list}, specs.Refusals.is_fault, proofs.Runs.{each, ◌⨾◌}}
 use Rattle.addresses.specs.Addresses.{on_page}
 use Rattle.sheet.specs.Read.{codes_ok}
 use Rattle.initialization_header.specs.declared.IgvmInitializationHeader.{IgvmInitializationHeader}
 use Rattle.directive_header.{specs.declared.IgvmDirectiveHeader.IgvmDirectiveHeader, specs.Directives.directive_of, specs.Fields.is_parameter}
 use Rattle.rules.{specs.Regions.{region_passes, table_holds}, specs.Directives.{own_directive_fault, wrong_context_arch, allocates, inserts, is_allocated, bad_area, inside_table, is_context}}
-use Rattle.area_table.{specs.AreaTable.{HoldsAreas, state_in}, proofs.AreaTableLaws.holds_same}
+use Rattle.area_table.{specs.declared.AreaTable.AreaTable, specs.AreaTable.{HoldsAreas, state_in}, specs.Table.Knows, proofs.AreaTableLaws.holds_same}
 use Rattle.directive_body.specs.Body.{BodyInOrder}
 use Rattle.directive_row.specs.Row.{AreaRow, NamedRow, area_state, state_of, state_after}
 
@@ -40,9 +40,9 @@ module _ (earlier : Rows IgvmDirectiveHeader) (x : ℕ) where
   live_says e = let (a, i) = state_live (any (allocates x) earlier) (any (inserts x) earlier) e in rw (a, i)
 
 -- what the table says is so
-pub table_says : (few links areas states : List ℕ) (earlier : Rows IgvmDirectiveHeader) (x n : ℕ) → HoldsAreas few links areas states (state_of earlier) → state_in few links areas states x ≡ n → n < 3
+pub table_says : {few links areas states : List ℕ} (earlier : Rows IgvmDirectiveHeader) (x n : ℕ) → HoldsAreas few links areas states (state_of earlier) → state_in few links areas states x ≡ n → n < 3
     → state_of earlier x ≡ n
-table_says few links areas states earlier x n h e l = sym (h.told x (λ q. omega arith)) ∙ e
+table_says earlier x n h e l = sym (h.told x (λ q. omega arith)) ∙ e
 
 -- ---- 33
 
@@ -59,9 +59,9 @@ module _ (earlier : Rows IgvmDirectiveHeader) (b : List ℕ) (none : state_of ea
       go true e = let q : le_at 4 b 8 ≡ x = sym (eqb-true x (le_at 4 b 8) e) in let (a, i) = none_says earlier x (rw q at none) in rw (a, i)
       go false e = rw (or-false (any (allocates x) earlier), or-false (any (inserts x) earlier))
 
-  pub area_row : (arch : Arch) (few links areas states : List ℕ) → BodyInOrder arch 33 b → HoldsAreas few links areas states (λ x. cond (eqb x (le_at 4 b 8)) 1 (state_of earlier x))
-      → AreaRow arch earlier 33 b few links areas states
-  area_row arch few links areas states alone h = record { alone = alone; area = area_good; known = holds_same h area_state_lem }
+  pub area_row : (arch : Arch) {LINKS NODES : ℕ} (t : AreaTable LINKS NODES) → BodyInOrder arch 33 b → Knows t (λ x. cond (eqb x (le_at 4 b 8)) 1 (state_of earlier x))
+      → AreaRow arch earlier 33 b t
+  area_row arch t alone h = record { alone = alone; area = area_good; known = holds_same h area_state_lem }
 
 -- ---- 50
 
@@ -78,10 +78,10 @@ module _ (earlier : Rows IgvmDirectiveHeader) (b : List ℕ) (live : state_of ea
       go true e = rw (or_true (any (inserts x) earlier))
       go false e = rw (or-false (any (allocates x) earlier), or-false (any (inserts x) earlier))
 
-  pub insert_area : (arch : Arch) (few links areas states : List ℕ) → length b ≡ 16 → on_page (le_at 8 b 0) ≡ true
-      → HoldsAreas few links areas states (λ x. cond (eqb x (le_at 4 b 12)) 2 (state_of earlier x)) → AreaRow arch earlier 50 b few links areas states
+  pub insert_area : (arch : Arch) {LINKS NODES : ℕ} (t : AreaTable LINKS NODES) → length b ≡ 16 → on_page (le_at 8 b 0) ≡ true
+      → Knows t (λ x. cond (eqb x (le_at 4 b 12)) 2 (state_of earlier x)) → AreaRow arch earlier 50 b t
   unfolding kind_of spans length_ok codes_ok own_directive_fault directive_of wrong_context_arch is_fault
-  insert_area arch few links areas states l p h =
+  insert_area arch t l p h =
       record { alone = record { list = refl; long = rw l; codes = refl; own = rw p }; area = insert_good; known = holds_same h insert_state }
 
 -- no page table holds its address
@@ -135,9 +135,9 @@ module _ (k : ℕ) (e : is_parameter k ≡ true) (b : List ℕ) where
   parameter_state earlier x =
       rw ((parameter k e).allocated x b, (parameter k e).inserted x b, or-false (any (allocates x) earlier), or-false (any (inserts x) earlier))
 
-  pub parameter_area_lem : (earlier : Rows IgvmDirectiveHeader) → state_of earlier (le_at 4 b 0) ≡ 1 → (arch : Arch) (few links areas states : List ℕ) → length b ≡ 8
-      → HoldsAreas few links areas states (state_of earlier) → AreaRow arch earlier k b few links areas states
-  parameter_area_lem earlier live arch few links areas states l h =
+  pub parameter_area_lem : (earlier : Rows IgvmDirectiveHeader) → state_of earlier (le_at 4 b 0) ≡ 1 → (arch : Arch) {LINKS NODES : ℕ} (t : AreaTable LINKS NODES) → length b ≡ 8
+      → Knows t (state_of earlier) → AreaRow arch earlier k b t
+  parameter_area_lem earlier live arch t l h =
       let p = parameter k e in
       record {
         alone = record { list = ap (λ (t : Kind). t.list) p.kind ∙ parameter_list; long = rw (p.kind, l) parameter_long; codes = p.codes b; own = p.own arch b };
@@ -154,15 +154,15 @@ module _ (k : ℕ) (e : is_parameter k ≡ true) (b : List ℕ) where
 -- ---- what each arm gives
 
 module _ (arch : Arch) (is : Rows IgvmInitializationHeader) (earlier : Rows IgvmDirectiveHeader) where
-  pub area_named_lem : (kind : ℕ) (b few links areas states : List ℕ) → kind ≡ 33 → AreaRow arch earlier 33 b few links areas states → NamedRow arch is earlier kind b few links areas states
+  pub area_named_lem : (kind : ℕ) (b : List ℕ) {LINKS NODES : ℕ} (t : AreaTable LINKS NODES) → kind ≡ 33 → AreaRow arch earlier 33 b t → NamedRow arch is earlier kind b t
   unfolding directive_of
-  area_named_lem kind b few links areas states e row = rw e (record { row = row; table = refl; other = λ level bits. refl })
+  area_named_lem kind b t e row = rw e (record { row = row; table = refl; other = λ level bits. refl })
 
-  pub insert_named : (kind : ℕ) (b few links areas states : List ℕ) → kind ≡ 50 → AreaRow arch earlier 50 b few links areas states → inside_table is (directive_of 50 b) ≡ false
-      → NamedRow arch is earlier kind b few links areas states
+  pub insert_named : (kind : ℕ) (b : List ℕ) {LINKS NODES : ℕ} (t : AreaTable LINKS NODES) → kind ≡ 50 → AreaRow arch earlier 50 b t → inside_table is (directive_of 50 b) ≡ false
+      → NamedRow arch is earlier kind b t
   unfolding directive_of
-  insert_named kind b few links areas states e row table = rw e (record { row = row; table = table; other = λ level bits. refl })
+  insert_named kind b t e row table = rw e (record { row = row; table = table; other = λ level bits. refl })
 
-  pub parameter_named : (kind : ℕ) → is_parameter kind ≡ true → (b few links areas states : List ℕ) → AreaRow arch earlier kind b few links areas states
-      → NamedRow arch is earlier kind b few links areas states
-  parameter_named kind p b few links areas states row = record { row = row; table = parameter_table kind p b is; other = parameter_context kind p b }
+  pub parameter_named : (kind : ℕ) → is_parameter kind ≡ true → (b : List ℕ) {LINKS NODES : ℕ} (t : AreaTable LINKS NODES) → AreaRow arch earlier kind b t
+      → NamedRow arch is earlier kind b t
+  parameter_named kind p b t row = record { row = row; table = parameter_table kind p b is; other = parameter_context kind p b }

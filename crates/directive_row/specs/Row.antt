@@ -10,7 +10,8 @@ use Rattle.directive_header.specs.Directives.{directive_of}
 use Rattle.rules.specs.Directives.{allocates, inserts, bad_area, inside_table, is_context}
 use Rattle.directive_check.specs.Record.{names_area}
 use Rattle.directive_body.specs.Body.{BodyInOrder}
-use Rattle.area_table.specs.AreaTable.{HoldsAreas}
+use Rattle.area_table.specs.declared.AreaTable.{AreaTable}
+use Rattle.area_table.specs.Table.{Knows}
 
 -- the masks of contexts with what a header adds
 abbrev pub ContextsNext : List ℕ → IgvmDirectiveHeader → List ℕ → Type 0
@@ -41,14 +42,14 @@ state_of earlier area = area_state (any (allocates area) earlier) (any (inserts 
 unfoldable pub state_after : Rows IgvmDirectiveHeader → IgvmDirectiveHeader → ℕ → ℕ
 state_after earlier h area = area_state (any (allocates area) earlier || allocates area h) (any (inserts area) earlier || inserts area h)
 
--- a row that names an area, after these directive rows
-pub record AreaRow (arch : Arch) (earlier : Rows IgvmDirectiveHeader) (kind : ℕ) (b few links areas states : List ℕ) : Type 0 where
+-- a row that names an area, after these directive rows, and the table of areas with what they and it tell
+pub record AreaRow (arch : Arch) (earlier : Rows IgvmDirectiveHeader) (kind : ℕ) (b : List ℕ) {LINKS NODES : ℕ} (t : AreaTable LINKS NODES) : Type 0 where
   pub alone : BodyInOrder arch kind b
   pub area : bad_area earlier (directive_of kind b) ≡ false
-  pub known : HoldsAreas few links areas states (state_after earlier (directive_of kind b))
+  pub known : Knows t (state_after earlier (directive_of kind b))
 
 -- such a row, also by the page tables of these initialization rows; it is no context
-pub record NamedRow (arch : Arch) (is : Rows IgvmInitializationHeader) (earlier : Rows IgvmDirectiveHeader) (kind : ℕ) (b few links areas states : List ℕ) : Type 0 where
-  pub row : AreaRow arch earlier kind b few links areas states
+pub record NamedRow (arch : Arch) (is : Rows IgvmInitializationHeader) (earlier : Rows IgvmDirectiveHeader) (kind : ℕ) (b : List ℕ) {LINKS NODES : ℕ} (t : AreaTable LINKS NODES) : Type 0 where
+  pub row : AreaRow arch earlier kind b t
   pub table : inside_table is (directive_of kind b) ≡ false
   pub other : (level bits : ℕ) → is_context level bits (directive_of kind b) ≡ false

@@ -11,21 +11,17 @@ ghost use Rattle.directive_header.specs.Directives.{directive_of};
 ghost use Rattle.directive_header.specs.Fields.{is_parameter};
 ghost use Rattle.rules.specs.Directives.{inside_table};
 ghost use Rattle.directive_header.specs.declared.IgvmDirectiveHeader.{IgvmDirectiveHeader};
-ghost use Rattle.area_table.specs.AreaTable.{Tree, HoldsAreas};
+ghost use Rattle.area_table.specs.Table.{Knows};
 ghost use Rattle.clashes.specs.Clashes.{HoldsTables};
 ghost use Rattle.directive_row.specs.Row.{VbsContext, PlainRow, AreaRow, NamedRow, state_of};
 
-// ---- a row's body
+use area_table::{AreaState, AreaTable};
+use reloc_regions::RelocRegions;
 
-fn wide(x: u8) -> usize
-    ensures { result ≡ x }
-{
-    x as usize
-}
+// ---- a row's body
 
 // 47 and 48, where the kind stands with the architecture: a VTL up to 2, whose mask gets the context's bits.
 fn vbs_context(b: &[u8], stands: bool, contexts: &mut [u32; 3]) -> bool
-    requires { length contexts.old ≡ 3 }
     ensures stands_value { result ≡ true → (stands ≡ true) × VbsContext b.now contexts.old contexts.new }
     ensures contexts_unchanged { (result ≡ false → contexts.new ≡ contexts.old) × (length contexts.new ≡ 3) }
 {
@@ -35,17 +31,16 @@ fn vbs_context(b: &[u8], stands: bool, contexts: &mut [u32; 3]) -> bool
     if b.len() < 5 {
         return false;
     }
-    let v = wide(b[4]);
+    let v = b[4] as usize;
     if 2 < v {
         return false;
     }
-    contexts[v] = contexts[v] | le::u32_at(b, 0);
+    contexts[v] |= le::u32_at(b, 0);
     true
 }
 
 // A row that names no area: its length, its codes and its tests.
 pub fn plain_row(kind: u32, b: &[u8], x64: bool, contexts: &mut [u32; 3]) -> bool
-    requires { length contexts.old ≡ 3 }
     ensures plain_row { (arch : Arch) → x64 ≡ is_x64 arch → result ≡ true → PlainRow arch kind b.now contexts.old contexts.new }
     ensures contexts_unchanged { (result ≡ false → contexts.new ≡ contexts.old) × (length contexts.new ≡ 3) }
 {
@@ -67,154 +62,93 @@ pub fn plain_row(kind: u32, b: &[u8], x64: bool, contexts: &mut [u32; 3]) -> boo
 // ---- rows that name an area
 
 // 33: an area that no row named.
-fn parameter_area_row(
+fn parameter_area_row<const LINKS: usize, const NODES: usize>(
     b: &[u8],
-    few: &mut [u8; area_table::FEW],
-    links: &mut [u16],
-    areas: &mut [u32],
-    states: &mut [u8],
+    areas: &mut AreaTable<LINKS, NODES>,
 ) -> bool
-    requires { Tree links.old areas.old states.old }
-    ensures area_row { (arch : Arch) (earlier : Rows IgvmDirectiveHeader) → HoldsAreas few.old links.old areas.old states.old (state_of earlier) → result ≡ true → AreaRow arch earlier 33 b.now few.new links.new areas.new states.new }
-    ensures by_index { (known : ℕ → ℕ) → result ≡ false → HoldsAreas few.old links.old areas.old states.old known → HoldsAreas few.new links.new areas.new states.new known }
+    ensures area_row { (arch : Arch) (earlier : Rows IgvmDirectiveHeader) → Knows areas.old (state_of earlier) → result ≡ true → AreaRow arch earlier 33 b.now areas.new }
+    ensures by_index { (known : ℕ → ℕ) → result ≡ false → Knows areas.old known → Knows areas.new known }
 {
     if !directive_body::parameter_area(b) {
         return false;
     }
-    let area = le::u32_at(b, 8);
-    area_table::change(
-        few,
-        links,
-        areas,
-        states,
-        area,
-        area_table::NOTHING,
-        area_table::ALLOCATED,
-    )
+    areas.change(le::u32_at(b, 8), AreaState::Nothing, AreaState::Allocated)
 }
 
 // 34 to 43: an area that is allocated.
-fn parameter_row(
+fn parameter_row<const LINKS: usize, const NODES: usize>(
     b: &[u8],
-    few: &[u8; area_table::FEW],
-    links: &[u16],
-    areas: &[u32],
-    states: &[u8],
+    areas: &AreaTable<LINKS, NODES>,
 ) -> bool
-    requires { Tree links.now areas.now states.now }
-    ensures { (arch : Arch) (earlier : Rows IgvmDirectiveHeader) (kind : ℕ) → is_parameter kind ≡ true → HoldsAreas few.now links.now areas.now states.now (state_of earlier) → result ≡ true → AreaRow arch earlier kind b.now few.now links.now areas.now states.now }
+    ensures { (arch : Arch) (earlier : Rows IgvmDirectiveHeader) (kind : ℕ) → is_parameter kind ≡ true → Knows areas.now (state_of earlier) → result ≡ true → AreaRow arch earlier kind b.now areas.now }
 {
     if b.len() != 8 {
         return false;
     }
-    area_table::state_of(few, links, areas, states, le::u32_at(b, 0)) == area_table::ALLOCATED
+    areas.state_of(le::u32_at(b, 0)) == Some(AreaState::Allocated)
 }
 
 // 50: an address on a page, an area that is allocated.
-fn insert_row(
+fn insert_row<const LINKS: usize, const NODES: usize>(
     b: &[u8],
-    few: &mut [u8; area_table::FEW],
-    links: &mut [u16],
-    areas: &mut [u32],
-    states: &mut [u8],
+    areas: &mut AreaTable<LINKS, NODES>,
 ) -> bool
-    requires { Tree links.old areas.old states.old }
-    ensures area_row { (arch : Arch) (earlier : Rows IgvmDirectiveHeader) → HoldsAreas few.old links.old areas.old states.old (state_of earlier) → result ≡ true → AreaRow arch earlier 50 b.now few.new links.new areas.new states.new }
-    ensures by_index { (known : ℕ → ℕ) → result ≡ false → HoldsAreas few.old links.old areas.old states.old known → HoldsAreas few.new links.new areas.new states.new known }
+    ensures area_row { (arch : Arch) (earlier : Rows IgvmDirectiveHeader) → Knows areas.old (state_of earlier) → result ≡ true → AreaRow arch earlier 50 b.now areas.new }
+    ensures by_index { (known : ℕ → ℕ) → result ≡ false → Knows areas.old known → Knows areas.new known }
 {
     if b.len() != 16 {
         return false;
     }
-    let area = le::u32_at(b, 12);
     if !addresses::on_page(le::u64_at(b, 0)) {
         return false;
     }
-    area_table::change(
-        few,
-        links,
-        areas,
-        states,
-        area,
-        area_table::ALLOCATED,
-        area_table::INSERTED,
-    )
+    areas.change(le::u32_at(b, 12), AreaState::Allocated, AreaState::Inserted)
 }
 
-// 50: no page table of the first n regions holds the address.
-fn clear_of_tables<'a>(
-    b: &'a [u8],
-    masks: &'a [u32],
-    gpas: &'a [u64],
-    sizes: &'a [u64],
-    tables: &'a [bool],
-    n: usize,
-) -> bool
-    requires { (n ≤ length masks.now) × (n ≤ length gpas.now) × (n ≤ length sizes.now) × (n ≤ length tables.now) }
-    ensures { (is : Rows IgvmInitializationHeader) → HoldsTables masks.now gpas.now sizes.now tables.now n is → result ≡ true → inside_table is (directive_of 50 b.now) ≡ false }
+// 50: no page table of the regions held contains the address.
+fn clear_of_tables<const N: usize>(b: &[u8], held: &RelocRegions<N>) -> bool
+    requires { held.now.count ≤ N }
+    ensures { (is : Rows IgvmInitializationHeader) → HoldsTables held.now.mask held.now.gpa held.now.size held.now.page_table held.now.count is → result ≡ true → inside_table is (directive_of 50 b.now) ≡ false }
 {
     if b.len() != 16 {
         return false;
     }
-    !clashes::any_table_holds(
-        masks,
-        gpas,
-        sizes,
-        tables,
-        n,
-        le::u32_at(b, 8),
-        le::u64_at(b, 0),
-    )
+    !clashes::any_table_holds(held, le::u32_at(b, 8), le::u64_at(b, 0))
 }
 
-fn parameter_insert_row<'a>(
-    b: &'a [u8],
-    masks: &'a [u32],
-    gpas: &'a [u64],
-    sizes: &'a [u64],
-    tables: &'a [bool],
-    n: usize,
-    few: &mut [u8; area_table::FEW],
-    links: &mut [u16],
-    areas: &mut [u32],
-    states: &mut [u8],
+fn parameter_insert_row<const N: usize, const LINKS: usize, const NODES: usize>(
+    b: &[u8],
+    held: &RelocRegions<N>,
+    areas: &mut AreaTable<LINKS, NODES>,
 ) -> bool
-    requires tree { Tree links.old areas.old states.old }
-    requires n_in_bounds { (n ≤ length masks.now) × (n ≤ length gpas.now) × (n ≤ length sizes.now) × (n ≤ length tables.now) }
-    ensures area_row { (arch : Arch) (is : Rows IgvmInitializationHeader) (earlier : Rows IgvmDirectiveHeader) → HoldsTables masks.now gpas.now sizes.now tables.now n is → HoldsAreas few.old links.old areas.old states.old (state_of earlier) → result ≡ true → AreaRow arch earlier 50 b.now few.new links.new areas.new states.new × (inside_table is (directive_of 50 b.now) ≡ false) }
-    ensures by_index { (known : ℕ → ℕ) → result ≡ false → HoldsAreas few.old links.old areas.old states.old known → HoldsAreas few.new links.new areas.new states.new known }
+    requires { held.now.count ≤ N }
+    ensures area_row { (arch : Arch) (is : Rows IgvmInitializationHeader) (earlier : Rows IgvmDirectiveHeader) → HoldsTables held.now.mask held.now.gpa held.now.size held.now.page_table held.now.count is → Knows areas.old (state_of earlier) → result ≡ true → AreaRow arch earlier 50 b.now areas.new × (inside_table is (directive_of 50 b.now) ≡ false) }
+    ensures by_index { (known : ℕ → ℕ) → result ≡ false → Knows areas.old known → Knows areas.new known }
 {
-    if !clear_of_tables(b, masks, gpas, sizes, tables, n) {
+    if !clear_of_tables(b, held) {
         return false;
     }
-    insert_row(b, few, links, areas, states)
+    insert_row(b, areas)
 }
 
-// A row that names an area: its length, its codes and its tests. The first n regions of the arrays tell the page tables.
-pub fn area_row<'a>(
+// A row that names an area: its length, its codes and its tests. The regions held tell the page tables.
+pub fn area_row<const N: usize, const LINKS: usize, const NODES: usize>(
     kind: u32,
-    b: &'a [u8],
-    masks: &'a [u32],
-    gpas: &'a [u64],
-    sizes: &'a [u64],
-    tables: &'a [bool],
-    n: usize,
-    few: &mut [u8; area_table::FEW],
-    links: &mut [u16],
-    areas: &mut [u32],
-    states: &mut [u8],
+    b: &[u8],
+    held: &RelocRegions<N>,
+    areas: &mut AreaTable<LINKS, NODES>,
 ) -> bool
-    requires tree { Tree links.old areas.old states.old }
-    requires n_in_bounds { (n ≤ length masks.now) × (n ≤ length gpas.now) × (n ≤ length sizes.now) × (n ≤ length tables.now) }
-    ensures named_row { (arch : Arch) (is : Rows IgvmInitializationHeader) (earlier : Rows IgvmDirectiveHeader) → HoldsTables masks.now gpas.now sizes.now tables.now n is → HoldsAreas few.old links.old areas.old states.old (state_of earlier) → result ≡ true → NamedRow arch is earlier kind b.now few.new links.new areas.new states.new }
-    ensures by_index { (known : ℕ → ℕ) → result ≡ false → HoldsAreas few.old links.old areas.old states.old known → HoldsAreas few.new links.new areas.new states.new known }
+    requires { held.now.count ≤ N }
+    ensures named_row { (arch : Arch) (is : Rows IgvmInitializationHeader) (earlier : Rows IgvmDirectiveHeader) → HoldsTables held.now.mask held.now.gpa held.now.size held.now.page_table held.now.count is → Knows areas.old (state_of earlier) → result ≡ true → NamedRow arch is earlier kind b.now areas.new }
+    ensures by_index { (known : ℕ → ℕ) → result ≡ false → Knows areas.old known → Knows areas.new known }
 {
     // Parameters first: they are the most frequent of these rows.
     if directive_check::is_parameter(kind) {
-        return parameter_row(b, few, links, areas, states);
+        return parameter_row(b, areas);
     }
     match kind {
-        33 => parameter_area_row(b, few, links, areas, states),
-        50 => parameter_insert_row(b, masks, gpas, sizes, tables, n, few, links, areas, states),
+        33 => parameter_area_row(b, areas),
+        50 => parameter_insert_row(b, held, areas),
         _ => false,
     }
 }

@@ -1,6 +1,6 @@
 -- Laws of body lengths.
 use Rattle.rows.{proofs.Bools.which, proofs.Kit.{inl, inr, ◌≡◌, true, ℕ, ◌≤◌, arith, leb-true, eqb-true}}
-use Rattle.igvm_defs.specs.{declared.Kind.Kind, Kinds.length_ok}
+use Rattle.igvm_defs.specs.{Kinds.{Kind, length_ok}}
 
 -- a length that the kind allows is at least its least
 pub length_least : (t : Kind) (n : ℕ) → length_ok t n ≡ true → t.least ≤ n

@@ -1,7 +1,7 @@
 pub mod Table
 pub mod Runs
-pub mod Tags
 pub mod RefusalLaws
 pub mod LengthLaws
 pub mod KindLaws
 pub mod VtlLaws
+pub mod AnswerLaws

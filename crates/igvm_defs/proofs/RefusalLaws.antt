@@ -1,7 +1,7 @@
 -- Laws of faults and refusals: whether there is one, as an equation, and which one it is.
 use lib.Dec.{eqb-suc-zero}
 use Rattle.rows.{proofs.Kit.{◌≡◌, refl, sym, ap, ◌∙◌, Bool, true, false, not, cond, ◌||◌, ◌≢◌, ◌↔◌, Option, none, some, ℕ, suc, ◌+◌, ◌-◌, ◌<◌, arith, dec_lt, eqb, eqb-true, ne_eqb, not-false}, specs.Below.{any_below, first_below}, proofs.BelowLaws.{any_below_lem, none_any, first_any, first_none, first_at, first_says, first_same_tests}}
-use Rattle.igvm_defs.specs.{declared.Refusal.Refusal, declared.Fault.Fault, Refusals.{refusal, no_refusal, fault, no_fault, refuse, or_fault, Then, is_fault, is_refusal, in_row, or_else, refusal_at, first_fault}}
+use Rattle.igvm_defs.specs.{declared.Refusal.Refusal, declared.Fault.Fault, Refusals.{refusal, no_refusal, fault, no_fault, refuse, is_fault, is_refusal, in_row, or_else, refusal_at, first_fault}}
 
 -- ---- whether there is a fault, a refusal
 pub no_fault_lem : is_fault no_fault ≡ false
@@ -28,20 +28,6 @@ else_refusal r later = go (is_refusal r) refl
     go : (b : Bool) → is_refusal r ≡ b → is_refusal (cond b r later) ≡ (b || is_refusal later)
     go true e = e
     go false e = refl
-
--- tests in a row are one chain
-pub or_then : (f : Fault) (n d : ℕ) (b : Bool) → 0 < n → (more : Fault)
-    → or_fault (or_fault f (refuse b (fault n d) no_fault)) more ≡ or_fault f (refuse b (fault n d) more)
-unfolding is_fault
-or_then f n d b l more = go (is_fault f) b refl
-  where
-    go : (a c : Bool) → is_fault f ≡ a → or_fault (cond a f (refuse c (fault n d) no_fault)) more ≡ cond a f (refuse c (fault n d) more)
-    go true c q = rw q
-    go false true q = rw (ne_eqb n 0 (λ e. omega arith))
-    go false false q = refl
-
-pub is_then : (f : Fault) (n d : ℕ) (b : Bool) (r : Fault) → 0 < n → r ≡ or_fault f (refuse b (fault n d) no_fault) → Then f n d b r
-is_then f n d b r l e = record { is = e; later = λ more. rw e (or_then f n d b l more) }
 
 -- ---- which refusal
 pub no_fault_row : (row : ℕ) (f : Fault) → is_fault f ≡ false → in_row row f ≡ no_refusal

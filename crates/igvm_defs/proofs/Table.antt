@@ -3,6 +3,8 @@
 use native.Mathlib.Nat.{suc-add, lt_of_lt_of_le}
 use lib.Dec.{ltb→lt}
 use Rattle.rows.proofs.Kit.{◌≡◌, refl, ◌∙◌, ap, sym, Bool, true, false, ◌&&◌, and-false, List, [], ◌∷◌, ℕ, zero, suc, ◌+◌, ◌<◌, ◌≤◌, zero-add, add-zero, add-suc, le_of_suc-le-suc, not-suc-le-zero, T, ltb, leb, get_or, lt-leb}
+use Rattle.std.proofs.Math.ListN.{get_or-map}
+use Rattle.std.proofs.Common.{map}
 use Rattle.igvm_defs.specs.Kinds.{Span, lookup, no_kind}
 
 module _ {A : Type 0} (f : ℕ → A) where
@@ -18,6 +20,10 @@ module _ {A : Type 0} (f : ℕ → A) where
 
   pub at : (n k : ℕ) → k < n → (d : A) → get_or (tabulate n 0) k d ≡ f k
   at n k h d = from n 0 k h d ∙ ap f (zero-add k)
+
+  -- the same of a table whose entries say what f does
+  pub said_at : {B : Type 0} (says : B → A) (xs : List B) (d : B) (n k : ℕ) → map says xs ≡ tabulate n 0 → k < n → says (get_or xs k d) ≡ f k
+  said_at says xs d n k e h = sym (get_or-map says xs k d) ∙ ap (λ (ys : List A). get_or ys k (says d)) e ∙ at n k h (says d)
 
 left : (a b : Bool) → T (a && b) → T a
 left true b t = tt

@@ -1,6 +1,14 @@
 -- The table of kinds: each kind's list, the least length of its body, and whether that length is exact; where it is not, opaque bytes may follow.
 use Rattle.std.specs.Prelude.{ℕ, Bool, true, false, cond, ◌&&◌, List, [], ◌∷◌, leb, eqb}
-use Rattle.igvm_defs.specs.declared.Kind.{Kind}
+use Rattle.igvm_defs.specs.declared.Kind as declared
+use Rattle.igvm_defs.specs.declared.RowList.{RowList}
+use Rattle.igvm_defs.specs.declared.RowList.TheVariants.{NoList, Platform, Initialization, Directive}
+
+-- what the table says of a kind
+pub record Kind : Type 0 where
+  pub list : ℕ
+  pub least : ℕ
+  pub exact : Bool
 
 -- the lists, by number
 abbrev pub platform_list : ℕ
@@ -11,6 +19,21 @@ initialization_list = 2
 
 abbrev pub directive_list : ℕ
 directive_list = 3
+
+-- the number of a list; 0 where it is none
+abbrev pub list_number : RowList → ℕ
+list_number NoList = 0
+list_number Platform = platform_list
+list_number Initialization = initialization_list
+list_number Directive = directive_list
+
+-- what an entry of the code's table says
+unfoldable pub kind_says : declared.Kind → Kind
+kind_says e = record { list = list_number e.list; least = e.least; exact = e.exact }
+
+-- the entry of a kind of no list
+abbrev pub no_entry : declared.Kind
+no_entry = record { list = NoList; least = 0; exact = false }
 
 -- the kinds first .. last of the table
 pub record Span : Type 0 where

@@ -1,6 +1,6 @@
 -- A refusal is a number, the row that it names (from 1; 0 for the sheet as a whole) and a detail. All three are 0 where nothing is refused.
 -- A fault is what is wrong with one row, or with the sheet as a whole: the refusal's number and detail.
-use Rattle.std.specs.Prelude.{ℕ, ◌+◌, Bool, cond, not, ◌≡◌, eqb}
+use Rattle.std.specs.Prelude.{ℕ, ◌+◌, Bool, true, cond, not, ◌≡◌, eqb, Result, MatchResult, ⊤}
 use Rattle.std.proofs.Math.Option.{Option, none, some}
 use Rattle.rows.specs.Below.{first_below}
 use Rattle.igvm_defs.specs.declared.Refusal.{Refusal}
@@ -29,11 +29,6 @@ is_fault f = not (eqb f.number 0)
 abbrev pub or_fault : Fault → Fault → Fault
 or_fault f later = cond (is_fault f) f later
 
--- r is the fault f, or else that of number n and detail d where the test holds; and before later tests it says so too
-pub record Then (f : Fault) (n d : ℕ) (test : Bool) (r : Fault) : Type 0 where
-  pub is : r ≡ or_fault f (refuse test (fault n d) no_fault)
-  pub later : (more : Fault) → or_fault r more ≡ or_fault f (refuse test (fault n d) more)
-
 unfoldable pub is_refusal : Refusal → Bool
 is_refusal r = not (eqb r.number 0)
 
@@ -52,3 +47,11 @@ refusal_at first f (some i) = refusal (f i).number (first + i + 1) (f i).detail
 
 unfoldable pub first_fault : ℕ → ℕ → (ℕ → Fault) → Refusal
 first_fault first n f = refusal_at first f (first_below n (λ i. is_fault (f i)))
+
+-- a check answers nothing where its rule finds no fault, and else the rule's fault
+abbrev pub Told : Result ⊤ Fault → Fault → Type 0
+Told answer f = MatchResult answer (λ _. f ≡ no_fault) (λ e. (e ≡ f) × (is_fault f ≡ true))
+
+-- a pass answers the refusal, or where there is none, what P holds of
+abbrev pub Passes : {A : Type 0} → Result A Refusal → Refusal → (A → Type 0) → Type 0
+Passes answer r P = MatchResult answer (λ a. (r ≡ no_refusal) × P a) (λ e. (e ≡ r) × (is_refusal r ≡ true))

@@ -1,9 +1,9 @@
 // What every other crate speaks of: refusals, the tables of kinds and of platform types, architectures, revisions and VTLs.
 #![tactic(auto)]
 
-ghost use Rattle.std.specs.Prelude.{◌≡◌, ℕ, ◌<◌, get_or};
-ghost use Rattle.igvm_defs.specs.Refusals.{fault, refuse, Then, or_fault, is_fault, is_refusal, in_row};
-ghost use Rattle.igvm_defs.specs.Kinds.{kind_of, no_kind, length_ok};
+ghost use Rattle.std.specs.Prelude.{◌≡◌, ℕ, ◌<◌, true, false, get_or, MatchResult};
+ghost use Rattle.igvm_defs.specs.Refusals.{fault, is_refusal, in_row};
+ghost use Rattle.igvm_defs.specs.Kinds.{kind_of, kind_says, no_entry, length_ok};
 ghost use Rattle.igvm_defs.specs.Platforms.{platform_type_of, is_platform_type};
 ghost use Rattle.igvm_defs.specs.Revision.{arch_of, page_size_of, is_x64, is_aarch64};
 ghost use Rattle.igvm_defs.specs.Vtls.{vtl_of, vtl_number};
@@ -22,18 +22,11 @@ pub struct Refusal {
     pub detail: u64,
 }
 
-// What is wrong with one row: the refusal's number and detail. Both 0 where nothing is.
+// What is wrong with one row, or with the sheet as a whole: the refusal's number and detail.
 #[derive(Clone, Copy)]
 pub struct Fault {
     pub number: u64,
     pub detail: u64,
-}
-
-impl Fault {
-    pub const NONE: Fault = Fault {
-        number: 0,
-        detail: 0,
-    };
 }
 
 impl Refusal {
@@ -44,55 +37,26 @@ impl Refusal {
     };
 }
 
-// The fault where the test holds, else what the later tests say.
-pub fn refuse(test: bool, number: u64, detail: u64, later: Fault) -> Fault
-    ensures { result ≡ refuse test (fault number detail) later }
+// Err of the number and the detail where the test holds.
+pub fn refuse_if(test: bool, number: u64, detail: u64) -> Result<(), Fault>
+    ensures { MatchResult result (λ _. test ≡ false) (λ e. (test ≡ true) × (e ≡ fault number detail)) }
 {
     if test {
-        return Fault { number, detail };
+        return Err(Fault { number, detail });
     }
-    later
-}
-
-// The fault where there is one, else what the later tests say.
-pub fn or_fault(f: Fault, later: Fault) -> Fault
-    ensures { result ≡ or_fault f later }
-{
-    if f.is_fault() {
-        return f;
-    }
-    later
+    Ok(())
 }
 
 impl Fault {
-    pub fn is_fault(self) -> bool
-        ensures { result ≡ is_fault self }
-    {
-        self.number != 0
-    }
-
-    // This fault, or else the one of this number where the test holds.
-    pub fn or(self, number: u64, detail: u64, test: bool) -> Fault
-        requires { 0 < number }
-        ensures { Then self number detail test result }
-    {
-        if self.number != 0 {
-            return self;
-        }
-        if test {
-            return Fault { number, detail };
-        }
-        Fault::NONE
-    }
-
     // The refusal that a fault of this row is.
+    #[tactic(auto, unfolding(crate::specs::Refusals::in_row, crate::specs::Refusals::is_fault))]
     pub fn in_row(self, row: u64) -> Refusal
         ensures { result ≡ in_row row self }
     {
-        if self.is_fault() {
+        if self.number != 0 {
             return Refusal {
                 number: self.number,
-                row: row,
+                row,
                 detail: self.detail,
             };
         }
@@ -101,6 +65,7 @@ impl Fault {
 }
 
 impl Refusal {
+    #[tactic(auto, unfolding(crate::specs::Refusals::is_refusal))]
     pub fn is_refusal(self) -> bool
         ensures { result ≡ is_refusal self }
     {
@@ -110,42 +75,42 @@ impl Refusal {
 
 // ---- kinds
 
-// What the table says of a kind: its list (1 platform, 2 initialization, 3 directive; 0 for a kind of no list), the least length
-// of its body, and whether that length is exact.
+// The lists of a sheet's rows. `NoList`: a kind that none of them has.
+#[derive(Clone, Copy, PartialEq, Eq)]
+pub enum RowList {
+    NoList,
+    Platform,
+    Initialization,
+    Directive,
+}
+
+// What the table says of a kind: its list, the least length of its body, and whether that length is exact.
 #[derive(Clone, Copy)]
 pub struct Kind {
-    pub list: u8,
+    pub list: RowList,
     pub least: u8,
     pub exact: bool,
 }
 
-impl Kind {
-    pub const PLATFORM: u8 = 1;
-
-    pub const INITIALIZATION: u8 = 2;
-
-    pub const DIRECTIVE: u8 = 3;
-}
-
 // A kind of no list.
 const NONE: Kind = Kind {
-    list: 0,
+    list: RowList::NoList,
     least: 0,
     exact: false,
 };
 
 // A parameter: kinds 34 to 43.
 const PARAMETER: Kind = Kind {
-    list: 3,
+    list: RowList::Directive,
     least: 8,
     exact: true,
 };
 
-// By number.
+// By number, written out, since a constant calls no function.
 const KINDS: [Kind; 54] = [
     NONE,
     Kind {
-        list: 1,
+        list: RowList::Platform,
         least: 16,
         exact: true,
     }, // 1 SupportedPlatform
@@ -164,22 +129,22 @@ const KINDS: [Kind; 54] = [
     NONE,
     NONE,
     Kind {
-        list: 2,
+        list: RowList::Initialization,
         least: 12,
         exact: true,
     }, // 16 GuestPolicy
     Kind {
-        list: 2,
+        list: RowList::Initialization,
         least: 22,
         exact: true,
     }, // 17 CcaPolicy
     Kind {
-        list: 2,
+        list: RowList::Initialization,
         least: 48,
         exact: true,
     }, // 18 RelocatableRegion
     Kind {
-        list: 2,
+        list: RowList::Initialization,
         least: 31,
         exact: true,
     }, // 19 PageTableRelocationRegion
@@ -196,12 +161,12 @@ const KINDS: [Kind; 54] = [
     NONE,
     NONE,
     Kind {
-        list: 3,
+        list: RowList::Directive,
         least: 18,
         exact: false,
     }, // 32 PageData
     Kind {
-        list: 3,
+        list: RowList::Directive,
         least: 12,
         exact: false,
     }, // 33 ParameterArea
@@ -216,52 +181,52 @@ const KINDS: [Kind; 54] = [
     PARAMETER, // 42 CommandLine
     PARAMETER, // 43 DeviceTree
     Kind {
-        list: 3,
+        list: RowList::Directive,
         least: 17,
         exact: true,
     }, // 44 RequiredMemory
     Kind {
-        list: 3,
+        list: RowList::Directive,
         least: 14,
         exact: false,
     }, // 45 SnpVpContext
     Kind {
-        list: 3,
+        list: RowList::Directive,
         least: 6,
         exact: false,
     }, // 46 X64NativeVpContext
     Kind {
-        list: 3,
+        list: RowList::Directive,
         least: 5,
         exact: false,
     }, // 47 X64VbsVpContext
     Kind {
-        list: 3,
+        list: RowList::Directive,
         least: 5,
         exact: false,
     }, // 48 AArch64VbsVpContext
     Kind {
-        list: 3,
+        list: RowList::Directive,
         least: 6,
         exact: false,
     }, // 49 AArch64CcaVpContext
     Kind {
-        list: 3,
+        list: RowList::Directive,
         least: 16,
         exact: true,
     }, // 50 ParameterInsert
     Kind {
-        list: 3,
+        list: RowList::Directive,
         least: 16,
         exact: true,
     }, // 51 ErrorRange
     Kind {
-        list: 3,
+        list: RowList::Directive,
         least: 4,
         exact: false,
     }, // 52 SnpIdBlock
     Kind {
-        list: 3,
+        list: RowList::Directive,
         least: 4,
         exact: false,
     }, // 53 VbsMeasurement
@@ -269,12 +234,13 @@ const KINDS: [Kind; 54] = [
 
 // The table of kinds. A constant array is built anew wherever it is indexed, so a loop over rows takes the table once, before it.
 pub fn kinds() -> [Kind; 54]
-    ensures { (k : ℕ) → k < 54 → get_or result k no_kind ≡ kind_of k }
+    ensures { (k : ℕ) → k < 54 → kind_says (get_or result k no_entry) ≡ kind_of k }
 {
     KINDS
 }
 
 // The place of a kind in the table; past its end, that of a kind of no list.
+#[tactic(auto, unfolding(crate::specs::Kinds::kind_of, crate::specs::Kinds::spans))]
 pub fn kind_index(k: u32) -> usize
     ensures { (result < 54) × (kind_of result ≡ kind_of k) }
 {
@@ -286,8 +252,9 @@ pub fn kind_index(k: u32) -> usize
 
 impl Kind {
     // A body length that the kind allows.
+    #[tactic(auto, unfolding(crate::specs::Kinds::kind_says, crate::specs::Kinds::length_ok))]
     pub fn length_ok(self, n: usize) -> bool
-        ensures { result ≡ length_ok self n }
+        ensures { result ≡ length_ok (kind_says self) n }
     {
         let least = self.least as usize;
         if self.exact {
@@ -363,6 +330,14 @@ const PLATFORM_TYPES: [PlatformType; 7] = [
     }, // 6 CCA
 ];
 
+impl PlatformType {
+    // The numbers of types that rules name.
+    pub const VSM_ISOLATION: u8 = 1;
+
+    pub const CCA: u8 = 6;
+}
+
+#[tactic(auto, unfolding(crate::specs::Platforms::is_platform_type, crate::specs::Platforms::platform_types))]
 pub fn is_platform_type(k: u8) -> bool
     ensures { result ≡ is_platform_type k }
 {
@@ -370,6 +345,7 @@ pub fn is_platform_type(k: u8) -> bool
 }
 
 // What the table says of a type; past its end, of none.
+#[tactic(auto, unfolding(crate::specs::Platforms::platform_type_of, crate::specs::Platforms::platform_types))]
 pub fn platform_type_of(k: u8) -> PlatformType
     ensures { result ≡ platform_type_of k }
 {
@@ -448,6 +424,7 @@ pub enum Vtl {
 
 impl Vtl {
     // The level that a code names. A code above 2 is refusal 5, and is never asked for.
+    #[tactic(auto, unfolding(crate::specs::Vtls::vtl_of))]
     pub fn new(code: u8) -> Vtl
         ensures { result ≡ vtl_of code }
     {

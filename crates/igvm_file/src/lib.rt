@@ -1,72 +1,34 @@
-// The verdict: IgvmFile::new, from any byte string. Who only wants the verdict keeps nothing: the arrays are locals, of 4 or of 64 regions.
+// The verdict: IgvmFile::new, from any byte string. Who only wants the verdict keeps nothing: what is found of a file is a local, with room for 4 or for 64 regions.
 #![tactic(auto)]
 
-ghost use Rattle.std.specs.Prelude.{◌≡◌, false, ◌≤◌};
-ghost use Rattle.igvm_defs.specs.Refusals.{is_fault};
-ghost use Rattle.sheet.specs.Head.{limits, head_of, start_fault};
-ghost use Rattle.answers.specs.Verdict.{verdict_of};
+ghost use Rattle.std.specs.Prelude.{◌≡◌};
+ghost use Rattle.igvm_defs.specs.Refusals.{Passes};
+ghost use Rattle.sheet.specs.Head.{limits, head_of};
+ghost use Rattle.answers.specs.Verdict.{verdict_refusal, verdict_of};
 
 use answers::Verdict;
+use by_start::KeptRegions;
+use igvm_defs::Refusal;
 use sheet::SheetHead;
 
-// The verdict on a sheet of up to four initialization rows: small arrays take less time to clear.
-fn judge_few(s: &[u8], head: SheetHead) -> Verdict
-    requires { (is_fault (start_fault limits s.now) ≡ false) × (head ≡ head_of s.now) × (head.initializations ≤ 4) }
-    ensures { result ≡ verdict_of limits s.now }
+// The head of an accepted file, or the first refusal of 1 to 34. A small record takes less time to clear.
+#[tactic(auto, using(validation::proofs::VerdictLaws::verdicts))]
+fn judged(s: &[u8]) -> Result<SheetHead, Refusal>
+    ensures { Passes result (verdict_refusal limits s.now) (λ head. head ≡ head_of s.now) }
 {
-    let mut masks: [u32; 4] = [0; 4];
-    let mut gpas: [u64; 4] = [0; 4];
-    let mut sizes: [u64; 4] = [0; 4];
-    let mut vps: [u16; 4] = [0; 4];
-    let mut vtls: [u8; 4] = [0; 4];
-    let mut tables: [bool; 4] = [false; 4];
-    let mut rows: [u16; 4] = [0; 4];
-    let mut next: [u8; 5] = [0; 5];
+    let head = sheet::read_head(s).map_err(|f| f.in_row(0))?;
     let mut contexts: [u32; 3] = [0; 3];
-    judge::judge(
-        s,
-        head,
-        &mut masks,
-        &mut gpas,
-        &mut sizes,
-        &mut vps,
-        &mut vtls,
-        &mut tables,
-        &mut rows,
-        &mut next,
-        &mut contexts,
-    )
-    .verdict
-}
-
-fn judge_many(s: &[u8], head: SheetHead) -> Verdict
-    requires { (is_fault (start_fault limits s.now) ≡ false) × (head ≡ head_of s.now) }
-    ensures { result ≡ verdict_of limits s.now }
-{
-    let mut masks: [u32; SheetHead::INITIALIZATION_ROWS] = [0; SheetHead::INITIALIZATION_ROWS];
-    let mut gpas: [u64; SheetHead::INITIALIZATION_ROWS] = [0; SheetHead::INITIALIZATION_ROWS];
-    let mut sizes: [u64; SheetHead::INITIALIZATION_ROWS] = [0; SheetHead::INITIALIZATION_ROWS];
-    let mut vps: [u16; SheetHead::INITIALIZATION_ROWS] = [0; SheetHead::INITIALIZATION_ROWS];
-    let mut vtls: [u8; SheetHead::INITIALIZATION_ROWS] = [0; SheetHead::INITIALIZATION_ROWS];
-    let mut tables: [bool; SheetHead::INITIALIZATION_ROWS] =
-        [false; SheetHead::INITIALIZATION_ROWS];
-    let mut rows: [u16; SheetHead::INITIALIZATION_ROWS] = [0; SheetHead::INITIALIZATION_ROWS];
-    let mut next: [u8; SheetHead::INITIALIZATION_PLACES] = [0; SheetHead::INITIALIZATION_PLACES];
-    let mut contexts: [u32; 3] = [0; 3];
-    judge::judge(
-        s,
-        head,
-        &mut masks,
-        &mut gpas,
-        &mut sizes,
-        &mut vps,
-        &mut vtls,
-        &mut tables,
-        &mut rows,
-        &mut next,
-        &mut contexts,
-    )
-    .verdict
+    if head.initializations <= 4 {
+        let mut kept: KeptRegions<4, 5> = KeptRegions::new();
+        judge::judge(s, head, &mut kept, &mut contexts)?;
+    } else {
+        let mut kept: KeptRegions<
+            { SheetHead::INITIALIZATION_ROWS },
+            { SheetHead::INITIALIZATION_PLACES },
+        > = KeptRegions::new();
+        judge::judge(s, head, &mut kept, &mut contexts)?;
+    }
+    Ok(head)
 }
 
 // A file that was offered: accepted, or the first refusal of 1 to 34.
@@ -76,23 +38,14 @@ pub struct IgvmFile {
 }
 
 impl IgvmFile {
+    #[tactic(auto, using(validation::proofs::VerdictLaws::answers))]
     pub fn new(s: &[u8]) -> IgvmFile
         ensures { result.verdict ≡ verdict_of limits s.now }
     {
-        let start = sheet::start_fault(s);
-        if start.is_fault() {
-            return IgvmFile {
-                verdict: validation::refused(start.in_row(0)),
-            };
-        }
-        let head = SheetHead::new(s);
-        if head.initializations <= 4 {
-            return IgvmFile {
-                verdict: judge_few(s, head),
-            };
-        }
-        IgvmFile {
-            verdict: judge_many(s, head),
-        }
+        let verdict = match judged(s) {
+            Ok(head) => validation::accepted(head),
+            Err(refusal) => validation::refused(refusal),
+        };
+        IgvmFile { verdict }
     }
 }

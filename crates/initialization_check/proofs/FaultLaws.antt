@@ -1,17 +1,18 @@
 -- What is wrong with an initialization header, kind by kind.
-use Rattle.rows.{proofs.Kit.{◌≡◌, refl, ap, Bool, true, false, not, cond, ◌&&◌, Option, none, some, ℕ, eqb}, specs.Rows.{Rows, any}}
+use Rattle.rows.{proofs.Kit.{◌≡◌, refl, ap, Bool, true, false, not, Option, none, some, ℕ, eqb}, specs.Rows.{Rows}}
 use Rattle.igvm_defs.{specs.declared.Arch.Arch, specs.declared.Fault.Fault, specs.Refusals.{fault, no_fault, refuse, is_fault, or_fault}}
 use Rattle.masks.{specs.Masks.{individual_masks, first_mask}, proofs.MaskLaws.first_mask_same}
-use Rattle.addresses.specs.Addresses.{ends_beyond}
 use Rattle.platform_header.specs.declared.IgvmPlatformHeader.{IgvmPlatformHeader}
 use Rattle.initialization_header.{specs.declared.IgvmInitializationHeader.IgvmInitializationHeader, specs.Fields.kind_number}
-use Rattle.rules.{specs.Platforms.last_is_cca, specs.declared.Region.Region, specs.Regions.{region_of, region_passes, tables_share, overlap}, specs.Initializations.{validate_initialization, wrong_policy_arch, bit_without_cca, without_cca, refuse_bit, initialization_fault}}
+use Rattle.rules.{specs.Platforms.last_is_cca, specs.declared.Region.Region, specs.Regions.{region_of, region_passes}, specs.Initializations.{validate_initialization, wrong_policy_arch, bit_without_cca, without_cca, refuse_bit, initialization_fault}}
 use Rattle.platform_check.{specs.declared.Platforms.Platforms, specs.Record.{HoldsPlatforms, last_type_is_cca}, proofs.RecordLaws.holds_cca}
-use Rattle.initialization_check.specs.Record.{policy_fault}
+use Rattle.reloc_regions.specs.{declared.RelocRegions.RelocRegions}
+use Rattle.initialization_check.specs.Record.{policy_fault, region_fault, HoldsClashes}
 
--- a header of kind 16 or 17
-pub no_region_lem : (h : IgvmInitializationHeader) → eqb (kind_number h) 18 ≡ false → eqb (kind_number h) 19 ≡ false → region_of h ≡ none
-no_region_lem h a b = rw (a, b)
+-- the fault of a region after those of the record, where there is a region
+abbrev pub later_fault : {N : ℕ} → RelocRegions N → Option Region → Fault
+later_fault r none = no_fault
+later_fault r (some new) = region_fault r new
 
 module _ (arch : Arch) (platforms : Rows IgvmPlatformHeader) where
   -- a header of another kind than 17
@@ -21,29 +22,22 @@ module _ (arch : Arch) (platforms : Rows IgvmPlatformHeader) where
 
   -- 24 and 25 stand before the later tests
   policy_then : (own : Fault) (wrong : Bool) (bit : Option ℕ) (later : Fault)
-      → or_fault own (refuse wrong (fault 24 17) (refuse_bit bit later)) ≡ or_fault (or_fault own (refuse wrong (fault 24 17) (refuse_bit bit no_fault))) later
+      → or_fault own (refuse wrong (fault 24 17) (refuse_bit bit later)) ≡ or_fault own (or_fault (refuse wrong (fault 24 17) (refuse_bit bit no_fault)) later)
   unfolding is_fault
-  policy_then own wrong bit later = go (is_fault own) wrong bit refl
+  policy_then own wrong bit later = ap (or_fault own) (go wrong bit)
     where
-      go : (b w : Bool) (o : Option ℕ) → is_fault own ≡ b
-          → cond b own (refuse w (fault 24 17) (refuse_bit o later)) ≡ or_fault (cond b own (refuse w (fault 24 17) (refuse_bit o no_fault))) later
-      go true w o e = rw e
-      go false true o e = refl
-      go false false none e = refl
-      go false false (some bit) e = refl
+      go : (w : Bool) (o : Option ℕ) → refuse w (fault 24 17) (refuse_bit o later) ≡ or_fault (refuse w (fault 24 17) (refuse_bit o no_fault)) later
+      go true o = refl
+      go false none = refl
+      go false (some bit) = refl
 
-  -- the header's own fault, then, where it has a region, 26, 27, 28, 29
-  pub row_fault_lem : (earlier : Rows IgvmInitializationHeader) (h : IgvmInitializationHeader) (found : Bool) (r : Region) → region_of h ≡ cond found (some r) none
-      → initialization_fault arch platforms earlier h
-      ≡ or_fault (or_fault (validate_initialization h) (policy_fault arch platforms h))
-      (refuse (found && any (region_passes (tables_share r)) earlier) (fault 26 0)
-      (refuse (found && eqb r.size 0) (fault 27 0)
-      (refuse (found && ends_beyond r.gpa r.size) (fault 28 0)
-      (refuse (found && any (region_passes (overlap r)) earlier) (fault 29 0)
-      no_fault))))
-  unfolding initialization_fault region_passes policy_fault
-  row_fault_lem earlier h true r e = rw e (policy_then (validate_initialization h) (wrong_policy_arch arch h) (without_cca platforms h) _)
-  row_fault_lem earlier h false r e = rw e (policy_then (validate_initialization h) (wrong_policy_arch arch h) (without_cca platforms h) _)
+  -- the header's own fault, then 24 and 25, then, where it has a region, 26 to 29
+  pub row_fault_lem : {N : ℕ} (r : RelocRegions N) (earlier : Rows IgvmInitializationHeader) (h : IgvmInitializationHeader) (o : Option Region) → HoldsClashes r earlier → region_of h ≡ o
+      → initialization_fault arch platforms earlier h ≡ or_fault (validate_initialization h) (or_fault (policy_fault arch platforms h) (later_fault r o))
+  unfolding initialization_fault region_passes policy_fault region_fault
+  row_fault_lem r earlier h (some new) held e =
+      rw (e, held.tables_share_lem new, held.overlaps new) (policy_then (validate_initialization h) (wrong_policy_arch arch h) (without_cca platforms h) _)
+  row_fault_lem r earlier h none held e = rw e (policy_then (validate_initialization h) (wrong_policy_arch arch h) (without_cca platforms h) _)
 
 -- for 25: a record of the platform rows finds the same bit
 pub holds_bit : (r : Platforms) (xs : Rows IgvmPlatformHeader) (mask : ℕ) → HoldsPlatforms r xs

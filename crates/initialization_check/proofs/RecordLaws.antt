@@ -1,52 +1,54 @@
 -- The record of regions answers for the rows that it holds.
-use Rattle.rows.{proofs.Kit.{◌≡◌, refl, sym, ap, ap₂, ◌∙◌, Bool, true, false, cond, ◌||◌, or-false, List, none, some, ℕ, ◌+◌, ◌<◌, ◌≤◌, add-zero, arith, ltb, length, set, length-set, get_or-set_same, get_or-set_other, ltb-true, ltb-false}, specs.Below.{any_below, sum_below, count_below}, specs.Rows.{Rows, before}, specs.Same.SameRows, proofs.SameLaws.any_rows, proofs.BelowLaws.{any_more, any_same_tests, count_more, count_same_tests}}
+use Rattle.rows.{proofs.Kit.{◌≡◌, refl, sym, subst, ap, ap₂, ◌∙◌, Bool, true, false, ◌||◌, or-false, List, none, some, ℕ, ◌+◌, ◌<◌, ◌≤◌, add-zero, arith, ltb, length, length-set, set, get_or-set_same, get_or-set_other, ltb-true, ltb-false}, specs.Below.{any_below, sum_below, count_below}, specs.Rows.{Rows, before}, specs.Same.SameRows, proofs.SameLaws.any_rows, proofs.BelowLaws.{any_more, any_same_tests, count_more, count_same_tests}}
 use Rattle.initialization_header.specs.declared.IgvmInitializationHeader.{IgvmInitializationHeader}
 use Rattle.rules.{specs.declared.Region.Region, specs.Regions.{region_of, region_passes, tables_share, overlap}}
-use Rattle.initialization_check.specs.{declared.RelocRegions.RelocRegions, Record.{entry, any_region, HoldsRegions, RegionOfRow, HoldsRows, HoldsClashes, stored}}
+use Rattle.reloc_regions.specs.{declared.RelocRegions.RelocRegions, Regions.{entry, pushed, Lengths}}
+use Rattle.by_start.{specs.{declared.Order.Order, ByStart.{Ordered, PlacedAt, More, linked}}, proofs.OrderedLaws.{ordered_stored, linked_length}}
+use Rattle.initialization_check.specs.Record.{any_region, HoldsRegions, RegionOfRow, HoldsRows, HoldsClashes}
 
 -- no region, and no row
-pub holds_none : (r : RelocRegions) (xs : Rows IgvmInitializationHeader) → r.count ≡ 0 → HoldsRegions r (before 0 xs)
+pub holds_none : {N : ℕ} (r : RelocRegions N) (xs : Rows IgvmInitializationHeader) → r.count ≡ 0 → HoldsRegions r (before 0 xs)
 unfolding any_below
 holds_none r xs e = record { count = omega arith; same = λ p. rw e }
 
-pub rows_none : (first : ℕ) (rows : List ℕ) (r : RelocRegions) (xs : Rows IgvmInitializationHeader) → r.count ≡ 0 → HoldsRows first rows r (before 0 xs)
+pub rows_none : {N : ℕ} (first : ℕ) (rows : List ℕ) (r : RelocRegions N) (xs : Rows IgvmInitializationHeader) → r.count ≡ 0 → HoldsRows first rows r (before 0 xs)
 unfolding sum_below
 rows_none first rows r xs e = record { each = λ i l. absurd (omega arith); counts = λ p. rw e }
 
--- the record q is the record r with one region more, in whatever order
-record Pushed (r : RelocRegions) (new : Region) (q : RelocRegions) : Type 0 where
-  count : q.count ≡ r.count + 1
-  same : (p : Region → Bool) → any_region p q ≡ (any_region p r || p new)
+-- lists with the same rows have the same regions
+pub holds_same : {N : ℕ} (r : RelocRegions N) {xs ys : Rows IgvmInitializationHeader} → SameRows xs ys → HoldsRegions r xs → HoldsRegions r ys
+holds_same r S held = record { count = let e = S.count in let l = held.count in omega arith; same = λ p. held.same p ∙ any_rows S (region_passes p) }
 
--- a row with a region
-holds_pushed : (r : RelocRegions) (xs : Rows IgvmInitializationHeader) (i : ℕ) (new : Region) (q : RelocRegions)
-    → HoldsRegions r (before i xs) → region_of (xs.row i) ≡ some new → Pushed r new q → HoldsRegions q (before (i + 1) xs)
-unfolding region_passes
-holds_pushed r xs i new q held e pushed =
-    record {
-      count = let l = held.count in let m = pushed.count in omega arith;
-      same = λ p. pushed.same p ∙ rw (held.same p, any_more i (λ j. region_passes p (xs.row j)), e);
-    }
+-- the record tells what clashes with a region
+pub holds_clashes : {N : ℕ} (r : RelocRegions N) (xs : Rows IgvmInitializationHeader) → HoldsRegions r xs → HoldsClashes r xs
+unfolding tables_share overlap
+holds_clashes r xs held = record { tables_share_lem = λ new. held.same (tables_share new); overlaps = λ new. held.same (overlap new) }
 
--- a row with no region
-holds_kept : (r : RelocRegions) (xs : Rows IgvmInitializationHeader) (i : ℕ) (q : RelocRegions) → HoldsRegions r (before i xs) → region_of (xs.row i) ≡ none
-    → q.count ≡ r.count → ((p : Region → Bool) → any_region p q ≡ any_region p r) → HoldsRegions q (before (i + 1) xs)
+-- ---- a row more with no region: the record stays
+
+pub holds_without : {N : ℕ} (r : RelocRegions N) (xs : Rows IgvmInitializationHeader) (i : ℕ) → region_of (xs.row i) ≡ none → HoldsRegions r (before i xs)
+    → HoldsRegions r (before (i + 1) xs)
 unfolding region_passes
-holds_kept r xs i q held e count same =
+holds_without r xs i e held =
     record {
       count = let l = held.count in omega arith;
-      same = λ p. same p ∙ held.same p ∙ rw (any_more i (λ j. region_passes p (xs.row j)), e, or-false);
+      same = λ p. held.same p ∙ rw (any_more i (λ j. region_passes p (xs.row j)), e, or-false);
     }
 
--- the arrays have room for one region more
-abbrev pub Room : RelocRegions → Type 0
-Room r =
-    (r.count < length r.mask) × (r.count < length r.gpa) × (r.count < length r.size) × (r.count < length r.vp_index) × (r.count < length r.vtl)
-    × (r.count < length r.page_table)
+pub rows_without : {N : ℕ} (first : ℕ) (rows : List ℕ) (r : RelocRegions N) (xs : Rows IgvmInitializationHeader) (i : ℕ) → region_of (xs.row i) ≡ none
+    → HoldsRows first rows r (before i xs) → HoldsRows first rows r (before (i + 1) xs)
+unfolding region_passes
+rows_without first rows r xs i e held =
+    record {
+      each = λ d l. let (j, h) = held.each d l in (j, record { below = let b = h.below in omega arith; number = h.number; region = h.region; earlier = h.earlier });
+      counts = λ p. held.counts p ∙ rw (count_more i (λ j. region_passes p (xs.row j)), e, add-zero);
+    }
 
-module _ (r : RelocRegions) (new : Region) (room : Room r) where
-  entry_before : (found : Bool) (i : ℕ) → i < r.count → entry (stored r found new) i ≡ entry r i
-  entry_before found i l =
+-- ---- a row more with a region, which the record has behind its own
+
+module _ {N : ℕ} (r : RelocRegions N) (new : Region) (lengths : Lengths (pushed r new)) (room : r.count < N) where
+  entry_before : (i : ℕ) → i < r.count → entry (pushed r new) i ≡ entry r i
+  entry_before i l =
       let ne : (i ≡ r.count → ⊥) = λ e. omega arith in
       rw (
         get_or-set_other r.mask r.count i new.mask 0 ne,
@@ -57,14 +59,14 @@ module _ (r : RelocRegions) (new : Region) (room : Room r) where
         get_or-set_other r.page_table r.count i new.page_table false ne,
       )
 
-  -- the regions that the record had
-  same_before : (found : Bool) (p : Region → Bool) → any_below r.count (λ i. p (entry (stored r found new) i)) ≡ any_region p r
-  same_before found p = any_same_tests r.count (λ i. p (entry (stored r found new) i)) (λ i. p (entry r i)) (λ i l. ap p (entry_before found i l))
-
-  -- and the one behind them
-  entry_last : (found : Bool) → entry (stored r found new) r.count ≡ new
-  entry_last found =
-      let (m, g, s, p, v, t) = room in
+  entry_last : entry (pushed r new) r.count ≡ new
+  entry_last =
+      let m : r.count < length r.mask = rw (simp length-set at lengths.mask) room in
+      let g : r.count < length r.gpa = rw (simp length-set at lengths.gpa) room in
+      let s : r.count < length r.size = rw (simp length-set at lengths.size) room in
+      let p : r.count < length r.vp_index = rw (simp length-set at lengths.vp_index) room in
+      let v : r.count < length r.vtl = rw (simp length-set at lengths.vtl) room in
+      let t : r.count < length r.page_table = rw (simp length-set at lengths.page_table) room in
       rw (
         get_or-set_same r.mask r.count new.mask 0 m,
         get_or-set_same r.gpa r.count new.gpa 0 g,
@@ -74,65 +76,55 @@ module _ (r : RelocRegions) (new : Region) (room : Room r) where
         get_or-set_same r.page_table r.count new.page_table false t,
       )
 
-  stored_pushed : Pushed r new (stored r true new)
-  stored_pushed =
+  -- the regions that the record had
+  same_before : (e : ℕ) → e ≤ r.count → (p : Region → Bool) → any_below e (λ i. p (entry (pushed r new) i)) ≡ any_below e (λ i. p (entry r i))
+  same_before e l p = any_same_tests e (λ i. p (entry (pushed r new) i)) (λ i. p (entry r i)) (λ i k. ap p (entry_before i (omega arith)))
+
+  -- and the one behind them
+  any_pushed : (p : Region → Bool) → any_region p (pushed r new) ≡ (any_region p r || p new)
+  any_pushed p =
+      any_more r.count (λ i. p (entry (pushed r new) i)) ∙ ap₂ (λ (a b : Bool). a || b) (same_before r.count (omega arith) p) (ap p entry_last)
+
+  pub holds_pushed : (xs : Rows IgvmInitializationHeader) (i : ℕ) → region_of (xs.row i) ≡ some new → HoldsRegions r (before i xs) → HoldsRegions (pushed r new) (before (i + 1) xs)
+  unfolding region_passes
+  holds_pushed xs i e held =
       record {
-        count = refl;
-        same = λ p. any_more r.count (λ i. p (entry (stored r true new) i)) ∙ ap₂ (λ (a b : Bool). a || b) (same_before true p) (ap p (entry_last true));
+        count = let l = held.count in omega arith;
+        same = λ p. any_pushed p ∙ rw (held.same p, any_more i (λ j. region_passes p (xs.row j)), e);
       }
 
-  -- one row more
-  pub holds_stored : (xs : Rows IgvmInitializationHeader) (i : ℕ) (found : Bool) → HoldsRegions r (before i xs) → region_of (xs.row i) ≡ cond found (some new) none
-      → HoldsRegions (stored r found new) (before (i + 1) xs)
-  holds_stored xs i true held e = holds_pushed r xs i new (stored r true new) held e stored_pushed
-  holds_stored xs i false held e = holds_kept r xs i (stored r false new) held e (omega arith) (λ p. rw add-zero (same_before false p))
-
-  -- a region that is stored and not counted leaves no trace
-  pub holds_skipped : (xs : Rows IgvmInitializationHeader) → HoldsRegions r xs → HoldsRegions (stored r false new) xs
-  holds_skipped xs held = record { count = let l = held.count in omega arith; same = λ p. rw add-zero (same_before false p) ∙ held.same p }
-
-  -- ---- the rows of the regions
-
-  count_before : (found : Bool) (p : Region → Bool) → count_below r.count (λ e. p (entry (stored r found new) e)) ≡ count_below r.count (λ e. p (entry r e))
-  count_before found p = count_same_tests r.count (λ e. p (entry (stored r found new) e)) (λ e. p (entry r e)) (λ e l. ap p (entry_before found e l))
+  count_before : (p : Region → Bool) → count_below r.count (λ e. p (entry (pushed r new) e)) ≡ count_below r.count (λ e. p (entry r e))
+  count_before p = count_same_tests r.count (λ e. p (entry (pushed r new) e)) (λ e. p (entry r e)) (λ e l. ap p (entry_before e l))
 
   module _ (first : ℕ) (rows : List ℕ) (xs : Rows IgvmInitializationHeader) (i : ℕ) (regions : HoldsRegions r (before i xs)) (held : HoldsRows first rows r (before i xs)) where
-    -- the regions before a region that the record had are as they were
-    earlier_before : (found : Bool) (e : ℕ) → e ≤ r.count → (p : Region → Bool)
-        → any_below e (λ d. p (entry (stored r found new) d)) ≡ any_below e (λ d. p (entry r d))
-    earlier_before found e l p = any_same_tests e (λ d. p (entry (stored r found new) d)) (λ d. p (entry r d)) (λ d k. ap p (entry_before found d (omega arith)))
-
     -- a region that the record had keeps its row
-    each_before : (found : Bool) (e : ℕ) → e < r.count
-        → (j : ℕ) × RegionOfRow first (set rows r.count (first + i + 1)) (stored r found new) (before (i + 1) xs) e j
-    each_before found e l =
+    each_before : (e : ℕ) → e < r.count → (j : ℕ) × RegionOfRow first (set rows r.count (first + i + 1)) (pushed r new) (before (i + 1) xs) e j
+    each_before e l =
         let (j, h) = held.each e l in
         let ne : (e ≡ r.count → ⊥) = λ q. omega arith in (
           j,
           record {
             below = let b = h.below in omega arith;
             number = rw (get_or-set_other rows r.count e (first + i + 1) 0 ne) h.number;
-            region = rw (entry_before found e l) h.region;
-            earlier = λ p. earlier_before found e (omega arith) p ∙ h.earlier p;
+            region = rw (entry_before e l) h.region;
+            earlier = λ p. same_before e (omega arith) p ∙ h.earlier p;
           },
         )
 
-    -- one row more
-    pub rows_stored : (found : Bool) → r.count < length rows → region_of (xs.row i) ≡ cond found (some new) none
-        → HoldsRows first (set rows r.count (first + i + 1)) (stored r found new) (before (i + 1) xs)
+    pub rows_pushed : r.count < length rows → region_of (xs.row i) ≡ some new → HoldsRows first (set rows r.count (first + i + 1)) (pushed r new) (before (i + 1) xs)
     unfolding region_passes
-    rows_stored true l f =
+    rows_pushed l f =
         record {
           each = λ e h. go e h (ltb e r.count) refl;
           counts =
               λ p.
-              count_more r.count (λ e. p (entry (stored r true new) e)) ∙ ap₂ (λ (a b : ℕ). a + b) (count_before true p ∙ held.counts p) (rw (entry_last true, f))
+              count_more r.count (λ e. p (entry (pushed r new) e)) ∙ ap₂ (λ (a b : ℕ). a + b) (count_before p ∙ held.counts p) (rw (entry_last, f))
               ∙ sym (count_more i (λ j. region_passes p (xs.row j)));
         }
       where
         go : (e : ℕ) → e < r.count + 1 → (b : Bool) → ltb e r.count ≡ b
-            → (j : ℕ) × RegionOfRow first (set rows r.count (first + i + 1)) (stored r true new) (before (i + 1) xs) e j
-        go e h true t = each_before true e (ltb-true e r.count t)
+            → (j : ℕ) × RegionOfRow first (set rows r.count (first + i + 1)) (pushed r new) (before (i + 1) xs) e j
+        go e h true t = each_before e (ltb-true e r.count t)
         go e h false t =
             let m = ltb-false e r.count t in
             let q : e ≡ r.count = omega arith in
@@ -141,47 +133,19 @@ module _ (r : RelocRegions) (new : Region) (room : Room r) where
               record {
                 below = omega arith;
                 number = get_or-set_same rows r.count (first + i + 1) 0 l;
-                region = rw (entry_last true) f;
-                earlier = λ p. same_before true p ∙ regions.same p;
+                region = rw entry_last f;
+                earlier = λ p. same_before r.count (omega arith) p ∙ regions.same p;
               },
             )
-    rows_stored false l f =
-        record {
-          each = λ e h. each_before false e (omega arith);
-          counts = λ p. rw (add-zero, count_before false p, held.counts p, count_more i (λ j. region_passes p (xs.row j)), f, add-zero);
-        }
 
--- lists with the same rows have the same regions
-pub holds_same : (r : RelocRegions) {xs ys : Rows IgvmInitializationHeader} → SameRows xs ys → HoldsRegions r xs → HoldsRegions r ys
-holds_same r S held = record { count = let e = S.count in let l = held.count in omega arith; same = λ p. held.same p ∙ any_rows S (region_passes p) }
-
--- the record's arrays tell what clashes with a region
-pub holds_clashes : (r : RelocRegions) (xs : Rows IgvmInitializationHeader) → HoldsRegions r xs → HoldsClashes r.mask r.gpa r.size r.page_table r.count xs
-unfolding tables_share overlap
-holds_clashes r xs held = record { tables_share_lem = λ new. held.same (tables_share new); overlaps = λ new. held.same (overlap new) }
-
--- ---- arrays that are lent
-
--- the arrays are as long as they were, and have room for every row
-pub record Lent (rows : ℕ) (was : RelocRegions) (wasNumbers : List ℕ) (held : RelocRegions) (numbers : List ℕ) : Type 0 where
-  pub mask : (length held.mask ≡ length was.mask) × (rows ≤ length held.mask)
-  pub gpa : (length held.gpa ≡ length was.gpa) × (rows ≤ length held.gpa)
-  pub size : (length held.size ≡ length was.size) × (rows ≤ length held.size)
-  pub vp : (length held.vp_index ≡ length was.vp_index) × (rows ≤ length held.vp_index)
-  pub vtl : (length held.vtl ≡ length was.vtl) × (rows ≤ length held.vtl)
-  pub table : (length held.page_table ≡ length was.page_table) × (rows ≤ length held.page_table)
-  pub number : (length numbers ≡ length wasNumbers) × (rows ≤ length numbers)
-
--- a region stored
-pub lent_stored : (rows : ℕ) (was : RelocRegions) (wasNumbers : List ℕ) (held : RelocRegions) (numbers : List ℕ) (found : Bool) (new : Region) (number : ℕ)
-    → Lent rows was wasNumbers held numbers → Lent rows was wasNumbers (stored held found new) (set numbers held.count number)
-lent_stored rows was wasNumbers held numbers found new number l =
-    record {
-      mask = simp length-set l.mask;
-      gpa = simp length-set l.gpa;
-      size = simp length-set l.size;
-      vp = simp length-set l.vp;
-      vtl = simp length-set l.vtl;
-      table = simp length-set l.table;
-      number = simp length-set l.number;
-    }
+-- and its place in order of start
+pub ordered_pushed : {N M : ℕ} (r q : RelocRegions N) (o w : Order M) (new : Region) (at from : ℕ) → r.count < N → N < M → Ordered o.next r.gpa r.size r.count o
+    → PlacedAt o.next r.gpa r.count new.gpa at → from ≤ r.count → q ≡ pushed r new → Lengths q → w.next ≡ linked o.next at r.count → length w.next ≡ M
+    → More o from new.size r.count w → Ordered w.next q.gpa q.size q.count w
+ordered_pushed {N} {M} r q o w new at from room wide ordered placed low regions arrays next places more =
+    let ls = rw regions at arrays in
+    let starts : r.count < length r.gpa = let z : length r.gpa ≡ N = simp length-set at ls.gpa in omega arith in
+    let long : r.count < length r.size = let z : length r.size ≡ N = simp length-set at ls.size in omega arith in
+    let free : r.count + 1 < length o.next = let z : length o.next ≡ M = rw linked_length at (rw next at places) in omega arith in
+    subst (λ (x : List ℕ). Ordered x q.gpa q.size q.count w) (sym next)
+    (rw regions (ordered_stored o.next r.gpa r.size r.count o new.gpa new.size at from w ordered starts long placed low free more))

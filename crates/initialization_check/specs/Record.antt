@@ -1,48 +1,37 @@
--- The record of the regions read so far, and the rows that it stands for, in whatever order it keeps them.
-use Rattle.std.specs.Prelude.{ℕ, ◌+◌, ◌<◌, ◌≤◌, ◌≡◌, Bool, false, cond, List, get_or, set}
-use Rattle.std.proofs.Math.Option.{none, some}
-use mir.Val.{bool_byte}
+-- The rows that a record of regions stands for, in whatever order it keeps them, and what the check of a row answers.
+use Rattle.std.specs.Prelude.{ℕ, ◌+◌, ◌<◌, ◌≤◌, ◌≡◌, Bool, true, List, get_or, ⊤, Result, MatchResult, Some, None}
+use Rattle.std.specs.Prelude as rust
+use Rattle.std.proofs.Math.Option.{Option, none, some}
 use Rattle.rows.specs.Below.{any_below, count_below}
 use Rattle.rows.specs.Rows.{Rows, any, before, count_of}
 use Rattle.igvm_defs.specs.declared.Arch.{Arch}
 use Rattle.igvm_defs.specs.declared.Fault.{Fault}
-use Rattle.igvm_defs.specs.Refusals.{fault, no_fault, refuse}
+use Rattle.igvm_defs.specs.Refusals.{fault, no_fault, refuse, is_fault}
+use Rattle.addresses.specs.Addresses.{ends_beyond}
 use Rattle.platform_header.specs.declared.IgvmPlatformHeader.{IgvmPlatformHeader}
 use Rattle.initialization_header.specs.declared.IgvmInitializationHeader.{IgvmInitializationHeader}
 use Rattle.rules.specs.declared.Region.{Region}
+use Rattle.reloc_regions.specs.declared.RelocRegions.{RelocRegions}
+use Rattle.reloc_regions.specs.Regions.{entry}
 use Rattle.clashes.specs.Clashes.{any_tables_share, any_overlap}
-use Rattle.initialization_check.specs.declared.RelocRegions.{RelocRegions}
+use Rattle.by_start.specs.declared.Order.{Order}
+use Rattle.by_start.specs.ByStart.{PlacedAt}
+use Rattle.initialization_check.specs.declared.NewRegion.{NewRegion}
 use Rattle.rules.specs.Regions.{region_of, region_passes, tables_share, overlap}
 use Rattle.rules.specs.Initializations.{wrong_policy_arch, without_cca, refuse_bit, initialization_fault}
-
--- region i of the record
-abbrev pub entry : RelocRegions → ℕ → Region
-entry r i =
-    record {
-      mask = get_or r.mask i 0;
-      gpa = get_or r.gpa i 0;
-      size = get_or r.size i 0;
-      vp_index = get_or r.vp_index i 0;
-      vtl = get_or r.vtl i 0;
-      page_table = get_or r.page_table i false;
-    }
+use Rattle.std.specs.Prelude.{eqb}
 
 -- some region of the record passes
-abbrev pub any_region : (Region → Bool) → RelocRegions → Bool
+abbrev pub any_region : {N : ℕ} → (Region → Bool) → RelocRegions N → Bool
 any_region p r = any_below r.count (λ i. p (entry r i))
 
 -- the record has no more regions than there are rows, and a test finds a region in it exactly where a row's region passes
-pub record HoldsRegions (r : RelocRegions) (xs : Rows IgvmInitializationHeader) : Type 0 where
+pub record HoldsRegions {N : ℕ} (r : RelocRegions N) (xs : Rows IgvmInitializationHeader) : Type 0 where
   pub count : r.count ≤ xs.count
   pub same : (p : Region → Bool) → any_region p r ≡ any (region_passes p) xs
 
--- the record that has these arrays
-abbrev pub regions_in : List ℕ → List ℕ → List ℕ → List ℕ → List ℕ → List Bool → ℕ → RelocRegions
-regions_in masks gpas sizes vps vtls tables n =
-    record { mask = masks; gpa = gpas; size = sizes; vp_index = vps; vtl = vtls; page_table = tables; count = n }
-
 -- region e of the record is that of row i of the list, whose number in the sheet stands at e; `first` rows of the sheet stand before the list
-pub record RegionOfRow (first : ℕ) (rows : List ℕ) (r : RelocRegions) (xs : Rows IgvmInitializationHeader) (e i : ℕ) : Type 0 where
+pub record RegionOfRow {N : ℕ} (first : ℕ) (rows : List ℕ) (r : RelocRegions N) (xs : Rows IgvmInitializationHeader) (e i : ℕ) : Type 0 where
   pub below : i < xs.count
   pub number : get_or rows e 0 ≡ first + i + 1
   pub region : region_of (xs.row i) ≡ some (entry r e)
@@ -50,7 +39,7 @@ pub record RegionOfRow (first : ℕ) (rows : List ℕ) (r : RelocRegions) (xs : 
   pub earlier : (p : Region → Bool) → any_below e (λ d. p (entry r d)) ≡ any (region_passes p) (before i xs)
 
 -- the rows of a record's regions
-pub record HoldsRows (first : ℕ) (rows : List ℕ) (r : RelocRegions) (xs : Rows IgvmInitializationHeader) : Type 0 where
+pub record HoldsRows {N : ℕ} (first : ℕ) (rows : List ℕ) (r : RelocRegions N) (xs : Rows IgvmInitializationHeader) : Type 0 where
   -- region e is that of the row whose number in the sheet, from 1, stands at e, and the regions before it are those of the rows before that one
   pub each : (e : ℕ) → e < r.count → (i : ℕ) × RegionOfRow first rows r xs e i
   -- as many regions pass a test as rows' regions do
@@ -63,25 +52,37 @@ policy_fault arch platforms h =
     (refuse_bit (without_cca platforms h)
     no_fault)
 
--- the first n regions of the arrays clash with a region exactly where the rows' regions do
-pub record HoldsClashes (masks gpas sizes : List ℕ) (tables : List Bool) (n : ℕ) (xs : Rows IgvmInitializationHeader) : Type 0 where
-  pub tables_share_lem : (r : Region) → any_tables_share r masks tables n ≡ any (region_passes (tables_share r)) xs
-  pub overlaps : (r : Region) → any_overlap r masks gpas sizes n ≡ any (region_passes (overlap r)) xs
+-- 26 to 29: a region after those of the record
+unfoldable pub region_fault : {N : ℕ} → RelocRegions N → Region → Fault
+region_fault r new =
+    refuse (any_tables_share new r.mask r.page_table r.count) (fault 26 0)
+    (refuse (eqb new.size 0) (fault 27 0)
+    (refuse (ends_beyond new.gpa new.size) (fault 28 0)
+    (refuse (any_overlap new r.mask r.gpa r.size r.count) (fault 29 0)
+    no_fault)))
 
--- what a step at row i answers: the row's fault, and its region where it has one
-pub record InitializationStepped (arch : Arch) (ps : Rows IgvmPlatformHeader) (xs : Rows IgvmInitializationHeader) (i : ℕ) (f : Fault) (found : Bool) (new : Region) : Type 0 where
-  pub told : f ≡ initialization_fault arch ps (before i xs) (xs.row i)
-  pub region : region_of (xs.row i) ≡ cond found (some new) none
+-- the regions of the record clash with a region exactly where the rows' regions do
+pub record HoldsClashes {N : ℕ} (r : RelocRegions N) (xs : Rows IgvmInitializationHeader) : Type 0 where
+  pub tables_share_lem : (new : Region) → any_tables_share new r.mask r.page_table r.count ≡ any (region_passes (tables_share new)) xs
+  pub overlaps : (new : Region) → any_overlap new r.mask r.gpa r.size r.count ≡ any (region_passes (overlap new)) xs
 
--- the record with a region behind its own, counted where there is one
-abbrev pub stored : RelocRegions → Bool → Region → RelocRegions
-stored r found new =
-    record {
-      mask = set r.mask r.count new.mask;
-      gpa = set r.gpa r.count new.gpa;
-      size = set r.size r.count new.size;
-      vp_index = set r.vp_index r.count new.vp_index;
-      vtl = set r.vtl r.count new.vtl;
-      page_table = set r.page_table r.count new.page_table;
-      count = r.count + bool_byte found;
-    }
+-- a new region's place in order of start, and a place among the regions at which a search for it began
+pub record Placed {N M : ℕ} (o : Order M) (r : RelocRegions N) (new : NewRegion) : Type 0 where
+  pub at : PlacedAt o.next r.gpa r.count new.region.gpa new.at
+  pub from : new.from ≤ r.count
+
+-- the region of a new one, where there is one
+abbrev pub region_in : rust.Option NewRegion → Option Region
+region_in None = none
+region_in (Some new) = some new.region
+
+-- what the check of a row answers: its region where it has one, or else its fault
+abbrev pub Checked : Arch → Rows IgvmPlatformHeader → Rows IgvmInitializationHeader → IgvmInitializationHeader → Result (rust.Option NewRegion) Fault → Type 0
+Checked arch ps earlier h answer =
+    let f = initialization_fault arch ps earlier h in
+    MatchResult answer (λ new. (f ≡ no_fault) × (region_of h ≡ region_in new)) (λ e. (e ≡ f) × (is_fault f ≡ true))
+
+-- a new region's place, where there is one
+abbrev pub AllPlaced : {N M : ℕ} → Order M → RelocRegions N → rust.Option NewRegion → Type 0
+AllPlaced o r None = ⊤
+AllPlaced o r (Some new) = Placed o r new

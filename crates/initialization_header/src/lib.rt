@@ -2,9 +2,10 @@
 #![tactic(auto)]
 
 ghost use Rattle.std.specs.Prelude.{◌≡◌, ◌≤◌, length};
-ghost use Rattle.igvm_defs.specs.Kinds.{kind_of, initialization_list};
+ghost use Rattle.igvm_defs.specs.Kinds.{initialization_list};
 ghost use Rattle.initialization_header.specs.Initializations.{initialization_of, guest_policy_of, cca_policy_of, relocatable_region_of, page_table_relocation_region_of};
 
+use header::Header;
 use igvm_defs::Vtl;
 
 // The two opaque bytes of a CcaPolicy, hash_algorithm and lfa_policy, are no part of a header.
@@ -97,16 +98,18 @@ fn page_table_relocation_region(b: &[u8]) -> IgvmInitializationHeader
     }
 }
 
-// The header that a row's kind and body say.
-pub fn decode(kind: u32, body: &[u8]) -> IgvmInitializationHeader
-    requires kind_value { (kind_of kind).list ≡ initialization_list }
-    requires kind_in_bounds { (kind_of kind).least ≤ length body.now }
-    ensures { result ≡ initialization_of kind body.now }
-{
-    match kind {
-        16 => guest_policy(body),
-        17 => cca_policy(body),
-        18 => relocatable_region(body),
-        _ => page_table_relocation_region(body),
+impl Header for IgvmInitializationHeader {
+    ghost list = { initialization_list };
+
+    ghost header_of = { initialization_of };
+
+    #[tactic(auto, unfolding(igvm_defs::specs::Kinds::kind_of, igvm_defs::specs::Kinds::spans, crate::specs::Initializations::initialization_of))]
+    fn decode(kind: u32, body: &[u8]) -> IgvmInitializationHeader {
+        match kind {
+            16 => guest_policy(body),
+            17 => cca_policy(body),
+            18 => relocatable_region(body),
+            _ => page_table_relocation_region(body),
+        }
     }
 }

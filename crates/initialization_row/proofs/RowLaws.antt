@@ -1,15 +1,16 @@
 -- An initialization row whose body passes the tests of its kind has no fault but one that an earlier row may give it.
-use Rattle.rows.{proofs.Kit.{◌≡◌, refl, sym, ◌∙◌, Bool, true, false, not, ◌&&◌, List, none, ℕ, ◌/◌, ◌%◌, ◌^◌, arith, bit_and, and_shr, and_step, eqb, leb, ltb, length, eqb-true, eq-eqb, leb-true, not-true}, specs.Rows.Rows, proofs.Bools.and_parts}
+use Rattle.rows.{proofs.Kit.{◌≡◌, refl, sym, ◌∙◌, Bool, true, false, not, ◌&&◌, List, none, ℕ, ◌/◌, ◌%◌, ◌^◌, arith, bit_and, and_shr, and_step, eqb, leb, length, eqb-true, eq-eqb, leb-true, not-true}, specs.Rows.Rows, proofs.Bools.and_parts}
 use Rattle.le.specs.Le.{byte_at, le_at}
-use Rattle.igvm_defs.{specs.declared.Arch.Arch, specs.declared.Arch.TheVariants.{X64, AArch64}, specs.Kinds.{kind_of, spans, length_ok}, specs.Refusals.{fault, no_fault, refuse, is_fault}, specs.Revision.{is_x64, is_aarch64}, proofs.RefusalLaws.no_fault_lem, proofs.VtlLaws.vtl_number_lem}
+use Rattle.igvm_defs.{specs.declared.Arch.Arch, specs.declared.Arch.TheVariants.{X64, AArch64}, specs.Kinds.{kind_of, spans, length_ok}, specs.Refusals.{is_fault}, specs.Revision.{is_x64, is_aarch64}, proofs.RefusalLaws.no_fault_lem, proofs.VtlLaws.vtl_number_lem}
 use Rattle.masks.{specs.Masks.{shares, matches, has_bit}, proofs.MaskLaws.has_bit_lem}
-use Rattle.addresses.specs.Addresses.{is_multiple, on_page, ends_beyond}
+use Rattle.addresses.specs.Addresses.{ends_beyond}
 use Rattle.sheet.specs.Read.{codes_ok}
 use Rattle.platform_header.specs.declared.IgvmPlatformHeader.{IgvmPlatformHeader}
 use Rattle.initialization_header.specs.Initializations.{cca_policy_of, initialization_of}
-use Rattle.rules.{specs.declared.Region.Region, specs.Regions.region_passes, specs.Initializations.{validate_region, validate_table, without_cca, own_initialization_fault}, proofs.Acceptance.without_cca_lem}
+use Rattle.rules.{specs.Regions.region_passes, specs.Initializations.{validate_region, validate_table, without_cca, own_initialization_fault}, proofs.Acceptance.without_cca_lem}
 use Rattle.platform_accept.specs.Accepted.{HoldsCca}
-use Rattle.initialization_row.specs.Row.{InOrder}
+use Rattle.initialization_row.specs.{declared.Row.TheVariants.Policy, Row.InOrder}
+use Rattle.initialization_row.specs.declared.Row.TheVariants as row
 
 -- ---- masks
 
@@ -29,54 +30,22 @@ is_aarch64_lem : (arch : Arch) → is_x64 arch ≡ false → is_aarch64 arch ≡
 is_aarch64_lem X64 e = sym e
 is_aarch64_lem AArch64 e = refl
 
--- ---- a region alone: no fault where all tests pass
-
-pub region_tests : (alignment gpa size minimum maximum : ℕ) (sized aligned placed lowest highest : Bool)
-    → sized ≡ on_page size → aligned ≡ on_page alignment → placed ≡ is_multiple gpa alignment → lowest ≡ is_multiple minimum alignment → highest ≡ is_multiple maximum alignment
-    → (sized && aligned && not (eqb alignment 0) && placed && lowest && highest) ≡ not (is_fault (validate_region alignment gpa size minimum maximum))
-unfolding validate_region is_fault
-region_tests alignment gpa size minimum maximum sized aligned placed lowest highest es ea ep el eh =
-    rw (es, ea, ep, el, eh) (go (on_page size) (on_page alignment) (eqb alignment 0) (is_multiple gpa alignment) (is_multiple minimum alignment) (is_multiple maximum alignment))
-  where
-    go : (a b c d e f : Bool) → (a && b && not c && d && e && f)
-        ≡ not (is_fault (refuse (not a) (fault 17 0) (refuse (not b) (fault 18 0) (refuse c (fault 19 0) (refuse (not d) (fault 20 gpa) (refuse (not e) (fault 20 minimum) (refuse (not f) (fault 20 maximum) no_fault)))))))
-    go false b c d e f = refl
-    go true false c d e f = refl
-    go true true true d e f = refl
-    go true true false false e f = refl
-    go true true false true false f = refl
-    go true true false true true false = refl
-    go true true false true true true = refl
-
-pub table_tests : (gpa size used : ℕ) (placed sized filled : Bool) → placed ≡ on_page gpa → sized ≡ on_page size → filled ≡ on_page used
-    → (placed && sized && filled && not (ltb size used)) ≡ not (is_fault (validate_table gpa size used))
-unfolding validate_table is_fault
-table_tests gpa size used placed sized filled ep es ef = rw (ep, es, ef) (go (on_page gpa) (on_page size) (on_page used) (ltb size used))
-  where
-    go : (a b c d : Bool) → (a && b && c && not d)
-        ≡ not (is_fault (refuse (not a) (fault 21 gpa) (refuse (not b) (fault 22 size) (refuse (not c) (fault 22 used) (refuse d (fault 23 0) no_fault)))))
-    go false b c d = refl
-    go true false c d = refl
-    go true true false d = refl
-    go true true true true = refl
-    go true true true false = refl
-
 module _ (arch : Arch) (ps : Rows IgvmPlatformHeader) (b : List ℕ) where
   -- 16
-  pub guest_in_order : (new : Region) → eqb (length b) 12 ≡ true → InOrder arch ps 16 b false new
+  pub guest_in_order : length b ≡ 12 → InOrder arch ps 16 b Policy
   unfolding kind_of spans length_ok codes_ok initialization_of own_initialization_fault region_passes is_fault
-  guest_in_order new long =
-      record { list = refl; long = long; codes = refl; own = refl; cca = refl; region = refl }
+  guest_in_order long =
+      record { list = refl; long = eq-eqb (length b) 12 long; codes = refl; own = refl; cca = refl; region = refl }
 
   -- 17
   policy_cca : (cca : ℕ) → HoldsCca cca ps → matches (le_at 4 b 0) cca ≡ true → without_cca ps (cca_policy_of b) ≡ none
   policy_cca cca holds e = (without_cca_lem ps (cca_policy_of b)).1 (λ _ k l h. holds k l (matches_bit (le_at 4 b 0) cca k e h))
 
-  pub policy_in_order : (x64 : Bool) (cca mask zeroes ones : ℕ) (shared held : Bool) (new : Region) → x64 ≡ is_x64 arch → HoldsCca cca ps → length b ≡ 22
+  pub policy_in_order : (x64 : Bool) (cca mask zeroes ones : ℕ) (shared held : Bool) → x64 ≡ is_x64 arch → HoldsCca cca ps → length b ≡ 22
       → mask ≡ le_at 4 b 0 → zeroes ≡ le_at 8 b 4 → ones ≡ le_at 8 b 12 → shared ≡ shares zeroes ones → held ≡ matches mask cca
-      → (not shared && not x64 && held) ≡ true → InOrder arch ps 17 b false new
+      → (not shared && not x64 && held) ≡ true → InOrder arch ps 17 b Policy
   unfolding kind_of spans length_ok codes_ok initialization_of own_initialization_fault region_passes is_fault
-  policy_in_order x64 cca mask zeroes ones shared held new ex holds long em ez eo es eh e =
+  policy_in_order x64 cca mask zeroes ones shared held ex holds long em ez eo es eh e =
       let (x, matched) = and_parts (not shared && not x64) held e in
       let (y, aarch64) = and_parts (not shared) (not x64) x in
       let apart : shares (le_at 8 b 4) (le_at 8 b 12) ≡ false = rw (← ez, ← eo, ← es) (not-true shared y) in
@@ -95,7 +64,7 @@ module _ (arch : Arch) (ps : Rows IgvmPlatformHeader) (b : List ℕ) where
       → mask ≡ le_at 4 b 0 → alignment ≡ le_at 8 b 4 → gpa ≡ le_at 8 b 12 → size ≡ le_at 8 b 20 → minimum ≡ le_at 8 b 28 → maximum ≡ le_at 8 b 36 → vp ≡ le_at 2 b 45
       → own ≡ not (is_fault (validate_region alignment gpa size minimum maximum)) → room ≡ (not (eqb size 0) && not (ends_beyond gpa size))
       → (leb (byte_at b 47) 2 && leb (byte_at b 44) 7 && own && room) ≡ true
-      → InOrder arch ps 18 b true (record { mask = mask; gpa = gpa; size = size; vp_index = vp; vtl = byte_at b 47; page_table = false })
+      → InOrder arch ps 18 b (row.Region (record { mask = mask; gpa = gpa; size = size; vp_index = vp; vtl = byte_at b 47; page_table = false }))
   unfolding kind_of spans length_ok codes_ok initialization_of own_initialization_fault region_passes ends_beyond
   region_in_order mask alignment gpa size minimum maximum vp own room long em ea eg es en ex ev eo er e =
       let (x, roomy) = and_parts (leb (byte_at b 47) 2 && leb (byte_at b 44) 7 && own) room e in
@@ -121,7 +90,7 @@ module _ (arch : Arch) (ps : Rows IgvmPlatformHeader) (b : List ℕ) where
       → mask ≡ le_at 4 b 0 → gpa ≡ le_at 8 b 4 → size ≡ le_at 8 b 12 → used ≡ le_at 8 b 20 → vp ≡ le_at 2 b 28
       → own ≡ not (is_fault (validate_table gpa size used)) → room ≡ (not (eqb size 0) && not (ends_beyond gpa size))
       → (leb (byte_at b 30) 2 && own && room) ≡ true
-      → InOrder arch ps 19 b true (record { mask = mask; gpa = gpa; size = size; vp_index = vp; vtl = byte_at b 30; page_table = true })
+      → InOrder arch ps 19 b (row.Region (record { mask = mask; gpa = gpa; size = size; vp_index = vp; vtl = byte_at b 30; page_table = true }))
   unfolding kind_of spans length_ok codes_ok initialization_of own_initialization_fault region_passes ends_beyond
   table_in_order mask gpa size used vp own room long em eg es eu ev eo er e =
       let (x, roomy) = and_parts (leb (byte_at b 30) 2 && own) room e in

@@ -1,6 +1,6 @@
 -- An initialization row by its kind and its body, whatever initialization rows stand before it.
-use Rattle.std.specs.Prelude.{ℕ, Bool, true, false, cond, List, ◌≡◌, length}
-use Rattle.std.proofs.Math.Option.{none, some}
+use Rattle.std.specs.Prelude.{ℕ, true, false, List, ◌≡◌, length}
+use Rattle.std.proofs.Math.Option.{Option, none, some}
 use Rattle.rows.specs.Rows.{Rows}
 use Rattle.igvm_defs.specs.declared.Arch.{Arch}
 use Rattle.igvm_defs.specs.Kinds.{initialization_list, kind_of, length_ok}
@@ -11,12 +11,19 @@ use Rattle.initialization_header.specs.Initializations.{initialization_of}
 use Rattle.rules.specs.declared.Region.{Region}
 use Rattle.rules.specs.Regions.{region_of}
 use Rattle.rules.specs.Initializations.{without_cca, own_initialization_fault}
+use Rattle.initialization_row.specs.declared.Row.{Row}
+use Rattle.initialization_row.specs.declared.Row.TheVariants as row
 
--- the row has no fault but one that an earlier row may give it, and `new` is its region where one is found
-pub record InOrder (arch : Arch) (platforms : Rows IgvmPlatformHeader) (kind : ℕ) (b : List ℕ) (found : Bool) (new : Region) : Type 0 where
+-- the region of a row in order, where it has one
+abbrev pub region_in_row : Row → Option Region
+region_in_row row.Policy = none
+region_in_row (row.Region r) = some r
+
+-- the row has no fault but one that an earlier row may give it, and this is its region where it has one
+pub record InOrder (arch : Arch) (platforms : Rows IgvmPlatformHeader) (kind : ℕ) (b : List ℕ) (r : Row) : Type 0 where
   pub list : (kind_of kind).list ≡ initialization_list
   pub long : length_ok (kind_of kind) (length b) ≡ true
   pub codes : codes_ok kind b ≡ true
   pub own : is_fault (own_initialization_fault arch (initialization_of kind b)) ≡ false
   pub cca : without_cca platforms (initialization_of kind b) ≡ none
-  pub region : region_of (initialization_of kind b) ≡ cond found (some new) none
+  pub region : region_of (initialization_of kind b) ≡ region_in_row r

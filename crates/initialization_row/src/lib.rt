@@ -1,7 +1,7 @@
 // One initialization row by its kind and its body, whatever initialization rows stand before it: whether it is in order, and its region.
 #![tactic(auto)]
 
-ghost use Rattle.std.specs.Prelude.{◌≡◌, true, false, not, ◌&&◌, eqb};
+ghost use Rattle.std.specs.Prelude.{◌≡◌, ⊤, true, false, not, ◌&&◌, eqb, MatchOption};
 ghost use Rattle.rows.specs.Rows.{Rows};
 ghost use Rattle.igvm_defs.specs.declared.Arch.{Arch};
 ghost use Rattle.igvm_defs.specs.Refusals.{is_fault};
@@ -9,29 +9,18 @@ ghost use Rattle.igvm_defs.specs.Revision.{is_x64};
 ghost use Rattle.addresses.specs.Addresses.{ends_beyond};
 ghost use Rattle.platform_header.specs.declared.IgvmPlatformHeader.{IgvmPlatformHeader};
 ghost use Rattle.rules.specs.Initializations.{validate_region, validate_table};
-ghost use Rattle.rules.specs.declared.Region.{Region};
 ghost use Rattle.platform_accept.specs.Accepted.{HoldsCca};
+ghost use Rattle.initialization_row.specs.declared.Row.{Row};
+ghost use Rattle.initialization_row.specs.declared.Row.TheVariants.{Policy};
 ghost use Rattle.initialization_row.specs.Row.{InOrder};
 
 use rules::Region;
 
-// Whether a row is in order but for the rows before it, and its region where it has one.
+// A row that is in order but for the rows before it: a policy, or a region of either kind.
 #[derive(Clone, Copy)]
-pub struct RowFound {
-    pub ok: bool,
-    pub found: bool,
-    pub region: Region,
-}
-
-// A row with no region.
-fn without_region(ok: bool) -> RowFound
-    ensures { (result.ok ≡ ok) × (result.found ≡ false) }
-{
-    RowFound {
-        ok,
-        found: false,
-        region: Region::NONE,
-    }
+pub enum Row {
+    Policy,
+    Region(Region),
 }
 
 // Neither 27 nor 28.
@@ -43,7 +32,7 @@ fn has_room(r: Region) -> bool
 
 // A CcaPolicy, where of every bit of `cca` the last platform is CCA.
 fn policy_row(b: &[u8], x64: bool, cca: u32) -> bool
-    ensures { (arch : Arch) (ps : Rows IgvmPlatformHeader) (new : Region) → x64 ≡ is_x64 arch → HoldsCca cca ps → result ≡ true → InOrder arch ps 17 b.now false new }
+    ensures { (arch : Arch) (ps : Rows IgvmPlatformHeader) → x64 ≡ is_x64 arch → HoldsCca cca ps → result ≡ true → InOrder arch ps 17 b.now Policy }
 {
     if b.len() != 22 {
         return false;
@@ -54,6 +43,7 @@ fn policy_row(b: &[u8], x64: bool, cca: u32) -> bool
 }
 
 // None of 17 to 20.
+#[tactic(auto, unfolding(rules::specs::Initializations::validate_region, igvm_defs::specs::Refusals::is_fault))]
 fn region_ok(alignment: u64, gpa: u64, size: u64, minimum: u64, maximum: u64) -> bool
     ensures { result ≡ not (is_fault (validate_region alignment gpa size minimum maximum)) }
 {
@@ -66,11 +56,11 @@ fn region_ok(alignment: u64, gpa: u64, size: u64, minimum: u64, maximum: u64) ->
 }
 
 // A relocatable region.
-fn region_row(b: &[u8]) -> RowFound
-    ensures { (arch : Arch) (ps : Rows IgvmPlatformHeader) → result.ok ≡ true → InOrder arch ps 18 b.now result.found result.region }
+fn region_row(b: &[u8]) -> Option<Row>
+    ensures { (arch : Arch) (ps : Rows IgvmPlatformHeader) → MatchOption result ⊤ (λ row. InOrder arch ps 18 b.now row) }
 {
     if b.len() != 48 {
-        return without_region(false);
+        return None;
     }
     let region = Region {
         mask: le::u32_at(b, 0),
@@ -87,14 +77,14 @@ fn region_row(b: &[u8]) -> RowFound
         le::u64_at(b, 28),
         le::u64_at(b, 36),
     );
-    RowFound {
-        ok: (b[47] <= 2) & (b[44] <= 7) & own & has_room(region),
-        found: true,
-        region,
+    if (b[47] <= 2) & (b[44] <= 7) & own & has_room(region) {
+        return Some(Row::Region(region));
     }
+    None
 }
 
 // None of 21 to 23.
+#[tactic(auto, unfolding(rules::specs::Initializations::validate_table, igvm_defs::specs::Refusals::is_fault))]
 fn table_ok(gpa: u64, size: u64, used: u64) -> bool
     ensures { result ≡ not (is_fault (validate_table gpa size used)) }
 {
@@ -102,11 +92,11 @@ fn table_ok(gpa: u64, size: u64, used: u64) -> bool
 }
 
 // A page table region.
-fn table_row(b: &[u8]) -> RowFound
-    ensures { (arch : Arch) (ps : Rows IgvmPlatformHeader) → result.ok ≡ true → InOrder arch ps 19 b.now result.found result.region }
+fn table_row(b: &[u8]) -> Option<Row>
+    ensures { (arch : Arch) (ps : Rows IgvmPlatformHeader) → MatchOption result ⊤ (λ row. InOrder arch ps 19 b.now row) }
 {
     if b.len() != 31 {
-        return without_region(false);
+        return None;
     }
     let region = Region {
         mask: le::u32_at(b, 0),
@@ -117,21 +107,21 @@ fn table_row(b: &[u8]) -> RowFound
         page_table: true,
     };
     let own = table_ok(region.gpa, region.size, le::u64_at(b, 20));
-    RowFound {
-        ok: (b[30] <= 2) & own & has_room(region),
-        found: true,
-        region,
+    if (b[30] <= 2) & own & has_room(region) {
+        return Some(Row::Region(region));
     }
+    None
 }
 
-pub fn row_of(kind: u32, b: &[u8], x64: bool, cca: u32) -> RowFound
-    ensures { (arch : Arch) (ps : Rows IgvmPlatformHeader) → x64 ≡ is_x64 arch → HoldsCca cca ps → result.ok ≡ true → InOrder arch ps kind b.now result.found result.region }
+// The row, where it is known to be in order whatever initialization rows stand before it.
+pub fn row_of(kind: u32, b: &[u8], x64: bool, cca: u32) -> Option<Row>
+    ensures { (arch : Arch) (ps : Rows IgvmPlatformHeader) → x64 ≡ is_x64 arch → HoldsCca cca ps → MatchOption result ⊤ (λ row. InOrder arch ps kind b.now row) }
 {
     match kind {
-        16 => without_region(b.len() == 12),
-        17 => without_region(policy_row(b, x64, cca)),
+        16 if b.len() == 12 => Some(Row::Policy),
+        17 if policy_row(b, x64, cca) => Some(Row::Policy),
         18 => region_row(b),
         19 => table_row(b),
-        _ => without_region(false),
+        _ => None,
     }
 }

@@ -1,80 +1,99 @@
 -- The loop over the initialization rows of a readable sheet: what holds at its head, and how a row's region leads to the next turn.
-use Rattle.rows.{proofs.Kit.{◌≡◌, refl, sym, ◌∙◌, Bool, cond, List, none, some, ℕ, ◌+◌, ◌≤◌, ◌<◌, add-zero, add_assoc, arith, length, set, length-set, get_or-set_same}, specs.Rows.before}
+use Rattle.rows.{proofs.Kit.{◌≡◌, sym, ◌∙◌, List, none, some, ℕ, ◌+◌, ◌≤◌, ◌<◌, add-zero, add_assoc, arith, length, set, length-set}, specs.Rows.{Rows, before}}
 use Rattle.igvm_defs.specs.Kinds.{initialization_list}
 use Rattle.sheet.{specs.declared.Cursor.Cursor, specs.Head.{limits, head_of}, specs.Table.{row_kind, body_of}, specs.Read.Readable, specs.Walk.cursor_at, proofs.Readable.readable_bounds}
 use Rattle.initialization_header.{specs.declared.IgvmInitializationHeader.IgvmInitializationHeader, specs.Initializations.initialization_of}
 use Rattle.sheet_headers.{specs.Headers.sheet_headers, proofs.HeaderLaws.sheet_counts, proofs.ListLaws.{AtList, at_initialization, initialization_header}}
 use Rattle.rules.{specs.declared.Region.Region, specs.Regions.region_of}
-use Rattle.by_start.{specs.ByStart.{ByStart, PlacedAt, linked}, proofs.LinkLaws.by_start_none, proofs.OrderedLaws.{by_start_stored, linked_length}}
-use Rattle.initialization_check.{specs.declared.RelocRegions.RelocRegions, specs.Record.{HoldsRegions, HoldsRows, stored}, proofs.RecordLaws.{Room, Lent, lent_stored, holds_none, rows_none, holds_stored, rows_stored}}
+use Rattle.reloc_regions.specs.Regions.{pushed, Lengths}
+use Rattle.by_start.{specs.declared.KeptRegions.KeptRegions, specs.ByStart.{ByStart, PlacedAt, linked}, proofs.OrderedLaws.{by_start_stored, linked_length}}
+use Rattle.initialization_check.{specs.Record.{HoldsRegions, HoldsRows}, proofs.RecordLaws.{holds_none, rows_none, holds_without, rows_without, holds_pushed, rows_pushed}}
+use Rattle.keep.specs.Kept.{KeptOf}
+
+-- ---- one row
+
+-- a row with no region
+pub kept_without : {N M : ℕ} (first : ℕ) (k : KeptRegions N M) (xs : Rows IgvmInitializationHeader) (i : ℕ) → region_of (xs.row i) ≡ none → KeptOf first k (before i xs)
+    → KeptOf first k (before (i + 1) xs)
+kept_without first k xs i e h =
+    record {
+      regions = holds_without k.regions xs i e h.regions;
+      rows = rows_without first k.rows k.regions xs i e h.rows;
+      order = h.order;
+    }
+
+-- a row whose region is kept behind the others
+pub kept_behind : {N M : ℕ} (first : ℕ) (k q : KeptRegions N M) (xs : Rows IgvmInitializationHeader) (i at : ℕ) (new : Region) → k.regions.count < N → N < M
+    → region_of (xs.row i) ≡ some new → PlacedAt k.order.next k.regions.gpa k.regions.count new.gpa at
+    → q.regions ≡ pushed k.regions new → q.rows ≡ set k.rows k.regions.count (first + i + 1) → q.order.next ≡ linked k.order.next at k.regions.count → Lengths q.regions × (length q.rows ≡ N) × (length q.order.next ≡ M)
+    → KeptOf first k (before i xs) → KeptOf first q (before (i + 1) xs)
+kept_behind {N} {M} first k q xs i at new room more e placed regions rows next (arrays, numbers, places) h =
+    let ls = rw regions at arrays in
+    let g : k.regions.count < length k.regions.gpa = rw (simp length-set at ls.gpa) room in
+    let n : k.regions.count < length k.rows = let z : length k.rows ≡ N = simp length-set at (rw rows at numbers) in omega arith in
+    let x : k.regions.count + 1 < length k.order.next = let z : length k.order.next ≡ M = rw linked_length at (rw next at places) in omega arith in
+    record {
+      regions = rw regions (holds_pushed k.regions new ls room xs i e h.regions);
+      rows = rw (regions, rows) (rows_pushed k.regions new ls room first k.rows xs i h.regions h.rows n e);
+      order = rw (regions, next) (by_start_stored k.order.next k.regions.gpa k.regions.count new.gpa at h.order g placed x);
+    }
+
+-- ---- the loop
 
 -- at the head of the loop: the cursor stands at row i of n initialization rows, which follow `first` others, and the record has the regions of the rows
 -- before it, each with its row, and in order of start
-pub record Reached (s : List ℕ) (first n : ℕ) (was : RelocRegions) (wasNumbers wasNext : List ℕ) (held : RelocRegions) (numbers next : List ℕ) (c : Cursor) (i : ℕ) : Type 0 where
+pub record Reached {N M : ℕ} (s : List ℕ) (first n : ℕ) (kept : KeptRegions N M) (c : Cursor) (i : ℕ) : Type 0 where
   pub readable : Readable limits s
   pub first_row : first ≡ (head_of s).platforms
   pub rows : n ≡ (head_of s).initializations
-  pub below : i ≤ n
+  pub room : (n ≤ N) × (N < M)
   pub at : c ≡ cursor_at s (first + i)
-  pub lent : Lent (head_of s).initializations was wasNumbers held numbers
-  pub holds : HoldsRegions held (before i (sheet_headers s).initializations)
-  pub row_of_lem : HoldsRows first numbers held (before i (sheet_headers s).initializations)
-  pub places : (length next ≡ length wasNext) × ((head_of s).initializations < length next)
-  pub order : ByStart next held.gpa held.count
+  pub holds : KeptOf first kept (before i (sheet_headers s).initializations)
 
 -- no row passed
-pub reached_none : (s : List ℕ) (first n : ℕ) (held : RelocRegions) (numbers next : List ℕ) (c : Cursor) → Readable limits s → first ≡ (head_of s).platforms
-    → n ≡ (head_of s).initializations → c ≡ cursor_at s first → Lent (head_of s).initializations held numbers held numbers → (head_of s).initializations < length next → held.count ≡ 0
-    → Reached s first n held numbers (set next 0 0) held numbers (set next 0 0) c 0
-reached_none s first n held numbers next c readable first_row rows at lent places empty =
+pub reached_none : {N M : ℕ} (s : List ℕ) (first n : ℕ) (kept : KeptRegions N M) (c : Cursor) → Readable limits s → first ≡ (head_of s).platforms
+    → n ≡ (head_of s).initializations → (n ≤ N) × (N < M) → c ≡ cursor_at s first → kept.regions.count ≡ 0 → ByStart kept.order.next kept.regions.gpa 0 → Reached s first n kept c 0
+reached_none s first n kept c readable first_row rows room at empty order =
     record {
       readable = readable;
       first_row = first_row;
       rows = rows;
-      below = omega arith;
+      room = room;
       at = rw add-zero at;
-      lent = lent;
-      holds = holds_none held (sheet_headers s).initializations empty;
-      row_of_lem = rows_none first numbers held (sheet_headers s).initializations empty;
-      places = simp length-set (refl, places);
-      order = rw empty (by_start_none (set next 0 0) held.gpa (get_or-set_same next 0 0 0 (omega arith)));
+      holds =
+          record {
+            regions = holds_none kept.regions (sheet_headers s).initializations empty;
+            rows = rows_none first kept.rows kept.regions (sheet_headers s).initializations empty;
+            order = rw empty order;
+          };
     }
 
-module _ {s : List ℕ} {first n : ℕ} {was : RelocRegions} {wasNumbers wasNext : List ℕ} {held : RelocRegions} {numbers next : List ℕ} {c : Cursor} {i : ℕ}
-    (r : Reached s first n was wasNumbers wasNext held numbers next c i) where
+module _ {N M : ℕ} {s : List ℕ} {first n : ℕ} {kept : KeptRegions N M} {c : Cursor} {i : ℕ} (r : Reached s first n kept c i) where
   pub row_known : i < n → AtList s initialization_list c
   row_known l = at_initialization s r.readable c i (rw r.first_row at r.at) (rw (← r.rows) l)
 
-  -- the arrays have room for the row's region, and the row's number is small
-  pub row_room : i < n → (first + i < 80) × (held.count < 64) × Room held × (held.count < length numbers) × (held.count + 1 < length next)
+  -- there is room for the row's region, and the row's number is small
+  pub row_room : i < n → (first + i < 80) × (kept.regions.count < 64) × (kept.regions.count < N)
   row_room l =
-      let b = readable_bounds s r.readable in let e = r.rows in let d = r.first_row in let h = r.holds.count in let lent = r.lent in
-      let p = r.places in
+      let b = readable_bounds s r.readable in let e = r.rows in let d = r.first_row in let h = r.holds.regions.count in let m = r.room in
       omega arith
 
-  -- the row passed, with its region
-  pub reached_next : (d : Cursor) (h : IgvmInitializationHeader) (found : Bool) (new : Region) (at : ℕ) → i < n → h ≡ initialization_of (row_kind s c.row) (body_of s c.row)
-      → region_of h ≡ cond found (some new) none → d ≡ cursor_at s (c.row + 1)
-      → PlacedAt next held.gpa held.count new.gpa at
-      → Reached s first n was wasNumbers wasNext (stored held found new) (set numbers held.count (first + i + 1)) (cond found (linked next at held.count) next) d (i + 1)
-  reached_next d h found new at l e region after placed =
-      let xs = (sheet_headers s).initializations in let (small, count, room, number, link) = row_room l in
-      let of : region_of (xs.row i) ≡ cond found (some new) none = rw (← initialization_header s c.row i (rw (r.at, r.first_row)), ← e) region in
+  -- the row's header
+  pub row_header : (h : IgvmInitializationHeader) → h ≡ initialization_of (row_kind s c.row) (body_of s c.row) → h ≡ (sheet_headers s).initializations.row i
+  row_header h e = e ∙ initialization_header s c.row i (rw (r.at, r.first_row))
+
+  -- the row passed
+  pub reached_next : (q : KeptRegions N M) (d : Cursor) → d ≡ cursor_at s (c.row + 1) → KeptOf first q (before (i + 1) (sheet_headers s).initializations) → Reached s first n q d (i + 1)
+  reached_next q d after more =
       record {
         readable = r.readable;
         first_row = r.first_row;
         rows = r.rows;
-        below = omega arith;
+        room = r.room;
         at = rw (after, r.at, add_assoc);
-        lent = lent_stored (head_of s).initializations was wasNumbers held numbers found new (first + i + 1) r.lent;
-        holds = holds_stored held new room xs i found r.holds of;
-        row_of_lem = rows_stored held new room first numbers xs i r.holds r.row_of_lem found number of;
-        places = rw (linked_length next at held.count found) r.places;
-        order = by_start_stored next held.gpa held.count new.gpa at r.order room.1 found (λ t. (placed, link));
+        holds = more;
       }
 
   -- every row passed
-  pub reached_end : n ≤ i → HoldsRegions held (sheet_headers s).initializations × HoldsRows (head_of s).platforms numbers held (sheet_headers s).initializations × ByStart next held.gpa held.count
-  reached_end l =
-      let b = r.below in let e : i ≡ n = omega arith in let z = e ∙ r.rows ∙ sym (sheet_counts s).initializations in
-      (rw z at r.holds, rw (z, r.first_row) at r.row_of_lem, r.order)
+  pub reached_end : i ≡ n → HoldsRegions kept.regions (sheet_headers s).initializations × HoldsRows (head_of s).platforms kept.rows kept.regions (sheet_headers s).initializations
+  reached_end e = let z = e ∙ r.rows ∙ sym (sheet_counts s).initializations in (rw z at r.holds.regions, rw (z, r.first_row) at r.holds.rows)

@@ -1,58 +1,55 @@
-// The regions of a readable sheet, each with its row, kept in slices that are lent.
+// The regions of a readable sheet, each with its row, kept in a record that is lent.
 #![tactic(auto)]
 
-ghost use Rattle.std.specs.Prelude.{◌≡◌, ◌≤◌, ◌<◌, length};
-ghost use Rattle.sheet.specs.Head.{limits, head_of};
-ghost use Rattle.sheet.specs.Read.{Readable};
+ghost use Rattle.std.specs.Prelude.{◌≡◌, ℕ, ◌+◌, ◌≤◌, ◌<◌};
+ghost use Rattle.rows.specs.Rows.{Rows, before};
+ghost use Rattle.initialization_header.specs.declared.IgvmInitializationHeader.{IgvmInitializationHeader};
+ghost use Rattle.sheet.specs.Head.{head_of};
 ghost use Rattle.sheet_headers.specs.Headers.{sheet_headers};
-ghost use Rattle.by_start.specs.ByStart.{ByStart};
-ghost use Rattle.initialization_check.specs.Record.{regions_in, HoldsRegions, HoldsRows};
+ghost use Rattle.by_start.specs.{ByStart.{ByStart}};
+ghost use Rattle.initialization_check.specs.Record.{HoldsRegions, HoldsRows};
+ghost use Rattle.keep.specs.Kept.{KeptOf};
 
-use sheet::SheetHead;
+use by_start::{KeptRegions, Order};
+use initialization_header::IgvmInitializationHeader;
+use sheet::ReadableSheet;
 
-// How many regions the initialization rows have. A row's region is stored in any case, with the row's number in the sheet, from 1, and where there is one it is
-// counted, and linked into its place in order of start.
-pub fn keep_regions<'a>(
-    s: &'a [u8],
-    head: SheetHead,
-    masks: &'a mut [u32],
-    gpas: &'a mut [u64],
-    sizes: &'a mut [u64],
-    vps: &'a mut [u16],
-    vtls: &'a mut [u8],
-    tables: &'a mut [bool],
-    rows: &'a mut [u16],
-    next: &'a mut [u8],
-) -> usize
-    requires readable { Readable limits s.now × (head ≡ head_of s.now) }
-    requires s_in_bounds { ((head_of s.now).initializations ≤ length masks.old) × ((head_of s.now).initializations ≤ length gpas.old) × ((head_of s.now).initializations ≤ length sizes.old) × ((head_of s.now).initializations ≤ length vps.old) × ((head_of s.now).initializations ≤ length vtls.old) × ((head_of s.now).initializations ≤ length tables.old) × ((head_of s.now).initializations ≤ length rows.old) × ((head_of s.now).initializations < length next.old) }
-    ensures holds_regions { HoldsRegions (regions_in masks.new gpas.new sizes.new vps.new vtls.new tables.new result) (sheet_headers s.now).initializations }
-    ensures holds_rows { HoldsRows (head_of s.now).platforms rows.new (regions_in masks.new gpas.new sizes.new vps.new vtls.new tables.new result) (sheet_headers s.now).initializations }
-    ensures by_start { ByStart next.new gpas.new result }
+// A row's region, where it has one, comes behind the others, with the row's number in the sheet, from 1, and into its place in order of start.
+fn keep_row<const N: usize, const M: usize>(
+    h: IgvmInitializationHeader,
+    number: u16,
+    kept: &mut KeptRegions<N, M>,
+)
+    requires room { (kept.old.regions.count < N) × (kept.old.regions.count < 255) × (N < M) }
+    requires by_start { ByStart kept.old.order.next kept.old.regions.gpa kept.old.regions.count }
+    ensures { (first : ℕ) (xs : Rows IgvmInitializationHeader) (i : ℕ) → h ≡ xs.row i → number ≡ first + i + 1 → KeptOf first kept.old (before i xs) → KeptOf first kept.new (before (i + 1) xs) }
 {
-    next[0] = 0;
-    let first = head.platforms as usize;
-    let count = head.initializations as usize;
-    let mut c = sheet_reader::cursor_at(s, first);
-    let mut n = 0;
-    let mut i = 0;
-    while i < count {
-        let row = sheet_headers::initialization_at(s, c);
-        let h = row.header;
-        let f = initialization_check::region_of(h);
-        let r = f.region;
-        let at = by_start::place(r.gpa, masks, gpas, sizes, next, n);
-        masks[n] = r.mask;
-        gpas[n] = r.gpa;
-        sizes[n] = r.size;
-        vps[n] = r.vp_index;
-        vtls[n] = r.vtl;
-        tables[n] = r.page_table;
-        rows[n] = (first + i + 1) as u16;
-        by_start::link(next, at, n, f.found);
-        n += f.found as usize;
-        c = row.next;
-        i += 1;
+    if let Some(region) = initialization_check::region_of(h) {
+        let n = kept.regions.count;
+        let at = kept.order.place(region.gpa, &kept.regions);
+        kept.regions.push(region);
+        kept.rows[n] = number;
+        kept.order.link(at, n);
     }
-    n
+}
+
+// The regions of the initialization rows, and no other.
+pub fn keep_regions<const N: usize, const M: usize>(
+    s: &ReadableSheet<'_>,
+    kept: &mut KeptRegions<N, M>,
+)
+    requires { ((head_of s.now.bytes.now).initializations ≤ N) × (N < M) }
+    ensures holds_regions { HoldsRegions kept.new.regions (sheet_headers s.now.bytes.now).initializations }
+    ensures holds_rows { HoldsRows (head_of s.now.bytes.now).platforms kept.new.rows kept.new.regions (sheet_headers s.now.bytes.now).initializations }
+    ensures by_start { ByStart kept.new.order.next kept.new.regions.gpa kept.new.regions.count }
+{
+    kept.regions.count = 0;
+    kept.order = Order::new();
+    let first = s.head.platforms as usize;
+    let mut c = sheet_reader::cursor_at(s, first);
+    for i in 0..s.head.initializations as usize {
+        let row = sheet_headers::header_at::<IgvmInitializationHeader>(s.bytes, c);
+        keep_row(row.header, (first + i + 1) as u16, kept);
+        c = row.next;
+    }
 }

@@ -22,6 +22,9 @@ fn eight(a: u8, b: u8, c: u8, d: u8, e: u8, f: u8, g: u8, h: u8) -> u64
     (four(a, b, c, d) as u64) + 4294967296 * (four(e, f, g, h) as u64)
 }
 
+// One function a width: a generic one would need a trait that says of each width what these three say.
+
+#[tactic(auto, unfolding(crate::specs::Le::le_at, rows::specs::Below::sum_below))]
 pub fn u16_at(b: &[u8], at: usize) -> u16
     requires { at + 2 ≤ length b.now }
     ensures { result ≡ le_at 2 b.now at }
@@ -29,6 +32,7 @@ pub fn u16_at(b: &[u8], at: usize) -> u16
     two(b[at], b[at + 1])
 }
 
+#[tactic(auto, unfolding(crate::specs::Le::le_at, rows::specs::Below::sum_below))]
 pub fn u32_at(b: &[u8], at: usize) -> u32
     requires { at + 4 ≤ length b.now }
     ensures { result ≡ le_at 4 b.now at }
@@ -36,6 +40,7 @@ pub fn u32_at(b: &[u8], at: usize) -> u32
     four(b[at], b[at + 1], b[at + 2], b[at + 3])
 }
 
+#[tactic(auto, unfolding(crate::specs::Le::le_at, rows::specs::Below::sum_below))]
 pub fn u64_at(b: &[u8], at: usize) -> u64
     requires { at + 8 ≤ length b.now }
     ensures { result ≡ le_at 8 b.now at }

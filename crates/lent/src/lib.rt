@@ -26,11 +26,8 @@ pub fn clear_words(b: &mut [u8], n: usize)
     requires { 8 * n ≤ length b.old }
     ensures { b.new ≡ words_put 0 n (λ _. 0) b.old }
 {
-    let end = 8 * n;
-    let mut i = 0;
-    while i < end {
+    for i in 0..8 * n {
         b[i] = 0;
-        i += 1;
     }
 }
 
@@ -39,10 +36,8 @@ pub fn put_words(b: &mut [u8], n: usize, words: [u64; 8])
     requires { 64 * n + 64 ≤ length b.old }
     ensures { b.new ≡ row_put n words b.old }
 {
-    let mut k = 0;
-    while k < 8 {
+    for k in 0..8 {
         put_word(b, 8 * n + k, words[k]);
-        k += 1;
     }
 }
 
@@ -54,10 +49,8 @@ pub fn put_numbers(b: &mut [u8], numbers: &[u64])
     if b.len() / 8 < n {
         return;
     }
-    let mut k = 0;
-    while k < n {
+    for k in 0..n {
         put_word(b, k, numbers[k]);
-        k += 1;
     }
 }
 
@@ -66,9 +59,7 @@ pub fn put_bytes(b: &mut [u8], from: &[u8], n: usize)
     requires { (n ≤ length b.old) × (n ≤ length from.now) }
     ensures { b.new ≡ bytes_put 0 n (λ j. byte_at from.now j) b.old }
 {
-    let mut i = 0;
-    while i < n {
+    for i in 0..n {
         b[i] = from[i];
-        i += 1;
     }
 }

@@ -1,22 +1,32 @@
 // The line that `admit` writes of a verdict.
 #![tactic(auto)]
 
-ghost use Rattle.std.specs.Prelude.{◌≡◌, [], ◌∷◌, ◌++◌, ◌+◌, ◌≤◌, length};
+ghost use Rattle.std.specs.Prelude.{◌≡◌, [], ◌∷◌, ◌++◌, ◌+◌, ◌<◌, ◌≤◌, length};
 ghost use Rattle.line.specs.Line.{digits_in, decimal, newline, accepted_line, refused_line, line_of};
-ghost use Rattle.line.specs.Text.{text_of, Extends};
 
 use answers::Verdict;
+use std::marker::Model;
 
-// The line so far: the first `len` bytes.
-#[derive(Clone, Copy)]
+// A line so far, of at most 96 bytes: no heap is asked. Clauses see its bytes.
+#[derive(Drop)]
 pub struct Line {
-    pub bytes: [u8; 96],
-    pub len: usize,
+    bytes: [u8; 96],
+    len: usize,
+}
+
+impl Model for Line {
+    ghost use Rattle.std.specs.Prelude.{ℕ, List, ◌≤◌, take};
+
+    ghost Value = { List ℕ };
+
+    ghost view = { λ l. take l.len l.bytes };
+
+    ghost invariant = { λ l. l.len ≤ 96 };
 }
 
 impl Line {
     fn new() -> Line
-        ensures { (text_of result ≡ []) × (result.len ≡ 0) }
+        ensures { result ≡ [] }
     {
         Line {
             bytes: [0; 96],
@@ -24,68 +34,83 @@ impl Line {
         }
     }
 
-    fn byte(self, b: u8) -> Line
-        requires { self.len + 1 ≤ 96 }
-        ensures { Extends self (b ∷ []) result }
+    pub fn as_bytes(&self) -> &[u8]
+        ensures value { result.now ≡ self.now }
+        ensures at_most { length self.now ≤ 96 }
     {
-        let n = self.len;
-        let mut next = self;
-        next.bytes[n] = b;
-        next.len = n + 1;
-        next
+        &self.bytes[..self.len]
     }
 
-    fn text(self, b: &[u8]) -> Line
-        requires { self.len + length b.now ≤ 96 }
-        ensures { Extends self b.now result }
+    fn push(&mut self, b: u8)
+        requires { length self.old < 96 }
+        ensures { self.new ≡ self.old ++ b ∷ [] }
     {
-        let mut next = self;
-        let mut i = 0;
-        while i < b.len() {
-            next = next.byte(b[i]);
-            i += 1;
+        self.bytes[self.len] = b;
+        self.len += 1;
+    }
+
+    fn text(&mut self, words: &[u8])
+        requires { length self.old + length words.now ≤ 96 }
+        ensures { self.new ≡ self.old ++ words.now }
+    {
+        for b in words {
+            self.push(*b);
         }
-        next
     }
 
     // The last k digits of n at most.
-    fn digits(self, k: usize, n: u64) -> Line
-        requires { self.len + k ≤ 96 }
-        ensures { Extends self (digits_in k n) result }
+    fn digits(&mut self, k: usize, n: u64)
+        requires { length self.old + k ≤ 96 }
+        ensures { self.new ≡ self.old ++ digits_in k n }
     {
         if k == 0 {
-            return self;
+            return;
         }
-        if n < 10 {
-            return self.byte(48 + (n % 10) as u8);
+        if 10 <= n {
+            self.digits(k - 1, n / 10);
         }
-        self.digits(k - 1, n / 10).byte(48 + (n % 10) as u8)
+        self.push(48 + (n % 10) as u8);
     }
 
     // The words, then the number in decimal.
-    fn number_after(self, words: &[u8], n: u64) -> Line
-        requires { self.len + length words.now + 20 ≤ 96 }
-        ensures { (text_of result ≡ text_of self ++ words.now ++ decimal n) × (result.len ≤ self.len + length words.now + 20) }
+    fn number_after(&mut self, words: &[u8], n: u64)
+        requires { length self.old + length words.now + 20 ≤ 96 }
+        ensures text { self.new ≡ self.old ++ words.now ++ decimal n }
+        ensures at_most { length self.new ≤ length self.old + length words.now + 20 }
     {
-        self.text(words).digits(20, n)
+        self.text(words);
+        self.digits(20, n);
     }
 }
 
 // A line of three numbers, each with words before it.
 fn numbers_line(first: &[u8], a: u64, second: &[u8], b: u64, third: &[u8], c: u64) -> Line
     requires { (length first.now ≤ 9) × (length second.now ≤ 9) × (length third.now ≤ 9) }
-    ensures { (text_of result ≡ first.now ++ decimal a ++ second.now ++ decimal b ++ third.now ++ decimal c ++ newline) × (result.len ≤ 96) }
+    ensures { result ≡ first.now ++ decimal a ++ second.now ++ decimal b ++ third.now ++ decimal c ++ newline }
 {
-    Line::new()
-        .number_after(first, a)
-        .number_after(second, b)
-        .number_after(third, c)
-        .byte(10)
+    let mut line = Line::new();
+    line.number_after(first, a);
+    line.number_after(second, b);
+    line.number_after(third, c);
+    line.push(10);
+    line
 }
 
-fn accepted_line(v: Verdict) -> Line
-    ensures { (text_of result ≡ accepted_line v) × (result.len ≤ 96) }
+// The line of a verdict.
+pub fn line_of(v: Verdict) -> Line
+    ensures { result ≡ line_of v }
 {
+    let refusal = v.refusal;
+    if refusal.is_refusal() {
+        return numbers_line(
+            b"refused ",
+            refusal.number,
+            b" row ",
+            refusal.row,
+            b" detail ",
+            refusal.detail,
+        );
+    }
     numbers_line(
         b"accepted ",
         v.platforms,
@@ -94,29 +119,4 @@ fn accepted_line(v: Verdict) -> Line
         b" ",
         v.directives,
     )
-}
-
-fn refused_line(v: Verdict) -> Line
-    ensures { (text_of result ≡ refused_line v) × (result.len ≤ 96) }
-{
-    let refusal = v.refusal;
-    numbers_line(
-        b"refused ",
-        refusal.number,
-        b" row ",
-        refusal.row,
-        b" detail ",
-        refusal.detail,
-    )
-}
-
-// The line of a verdict.
-pub fn line_of(v: Verdict) -> Line
-    ensures { (text_of result ≡ line_of v) × (result.len ≤ 96) }
-{
-    let refusal = v.refusal;
-    if refusal.is_refusal() {
-        return refused_line(v);
-    }
-    accepted_line(v)
 }

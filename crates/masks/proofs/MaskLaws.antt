@@ -3,7 +3,7 @@ use Prim.Native.Nat.{min, max}
 use native.{Mathlib.Nat.{two-pow-succ, add-sub_cancel, zero-mul, one-mul, div-one, div-eq_of_lt, div-div-eq-div-mul, zero-div, div_self, eq-zero-or-pos}, Mathlib.Numerals.one-add}
 use lib.{Arith.bin_ind, Bits.{and_comm, and_self, and_zero_r, or_step, and_le_l, and_le_r, or_shr, or_add_and, and_high}, Pow.{pow_pos, pow_mono, shl_exact}, Seq.take-add}
 use Rattle.rows.{proofs.Kit.{◌≡◌, refl, sym, ap, ap₂, ◌∙◌, Bool, true, false, cond, not, ◌&&◌, ◌||◌, false≢true, List, [], ◌∷◌, ◌++◌, ◌≢◌, ◌↔◌, ◌⊎◌, inl, inr, Option, none, some, ℕ, zero, suc, ◌+◌, ◌-◌, ◌*◌, ◌/◌, ◌%◌, ◌^◌, ◌≤◌, ◌<◌, pow-succ', dec_lt, add-one, arith, bit_and, bit_or, and_step, and_shr, eqb, length, take, get_or, take-suc, eqb-true, eqb-false, eq-eqb, ne_eqb, not-true, not-false}, specs.Below.{or_later, first_below}, proofs.Bools.{not_both, eqb_same, cond_map}, proofs.BelowLaws.{first_none, first_at}}
-use Rattle.masks.specs.{Masks.{shares, matches, is_one_bit, has_bit, bits_below, first_mask}, Without.without}
+use Rattle.masks.specs.{Masks.{shares, matches, is_one_bit, has_bit, bits_below, first_mask}, Without.{without, lowest_bit}}
 use lib.Count as Count
 
 -- ---- shares
@@ -371,8 +371,8 @@ matches_none w given m l =
 
 -- the lowest bit of the one mask that the other has not, where the one has w bits
 pub lowest_first : (w m held : ℕ) → m < 2 ^ w
-    → let x = without m held in first_mask (λ bit. not (shares held bit)) (bits_below w m) ≡ cond (eqb (x - bit_and x (x - 1)) 0) none (some (x - bit_and x (x - 1)))
-unfolding without has_bit
+    → first_mask (λ bit. not (shares held bit)) (bits_below w m) ≡ lowest_bit (without m held)
+unfolding without has_bit lowest_bit
 lowest_first w m held l = first_mask_bits (λ bit. not (shares held bit)) w m ∙ go (eq-zero-or-pos x)
   where
     x : ℕ
@@ -381,10 +381,10 @@ lowest_first w m held l = first_mask_bits (λ bit. not (shares held bit)) w m �
     lacks : ℕ → Bool
     lacks k = has_bit m k && not (shares held (2 ^ k))
 
-    go : (x ≡ 0) ⊎ (0 < x) → bit_at (first_below w lacks) ≡ cond (eqb (x - bit_and x (x - 1)) 0) none (some (x - bit_and x (x - 1)))
+    go : (x ≡ 0) ⊎ (0 < x) → bit_at (first_below w lacks) ≡ lowest_bit x
     -- no bit is left
     go (inl z) = rw (z, (first_none w lacks).1 (λ k b. sym (without_bit m held k) ∙ rw (z, has_bit_lem, zero-div)))
     go (inr p) =
         let (k, q, b, lower) = lowest_says x p in
         let here = bit_below w x k (omega (arith, and_le_l m held)) b in
-        rw (q, ne_eqb (2 ^ k) 0 (λ e. omega (arith, pow_pos k)), first_at w lacks k here (λ j h. sym (without_bit m held j) ∙ lower j h) (sym (without_bit m held k) ∙ b))
+        rw (ne_eqb x 0 (λ e. omega arith), q, first_at w lacks k here (λ j h. sym (without_bit m held j) ∙ lower j h) (sym (without_bit m held k) ∙ b))

@@ -2,17 +2,19 @@
 #![tactic(auto)]
 
 ghost use Rattle.std.specs.Prelude.{◌≡◌, cond, not, [], ◌∷◌, ◌++◌, ◌+◌, ◌-◌, ◌≤◌, ◌<◌, eqb, take};
-ghost use Rattle.std.proofs.Math.Option.{none, some};
-ghost use Rattle.std.specs.Int.Bits.{bit_and};
+ghost use Rattle.rows.specs.Answered.{option_of};
 ghost use Rattle.masks.specs.Masks.{shares, matches, is_one_bit, individual_masks, first_mask};
-ghost use Rattle.masks.specs.Without.{without};
+ghost use Rattle.masks.specs.Without.{without, lowest_bit};
 
+#[tactic(auto, unfolding(crate::specs::Masks::shares))]
 pub fn shares(m: u32, n: u32) -> bool
     ensures { result ≡ shares m n }
 {
     m & n != 0
 }
 
+// The same of 64 bits. A generic one would ask for the operators and their laws by bounds, and be no plainer.
+#[tactic(auto, unfolding(crate::specs::Masks::shares))]
 pub fn shares_u64(m: u64, n: u64) -> bool
     ensures { result ≡ shares m n }
 {
@@ -20,6 +22,7 @@ pub fn shares_u64(m: u64, n: u64) -> bool
 }
 
 // The mask m holds every bit of the mask given.
+#[tactic(auto, unfolding(crate::specs::Masks::matches))]
 pub fn matches(given: u32, m: u32) -> bool
     ensures { result ≡ matches given m }
 {
@@ -37,25 +40,27 @@ pub fn is_one_bit(m: u32) -> bool
 }
 
 // The bits of a mask that another has not.
+#[tactic(auto, unfolding(crate::specs::Without::without))]
 pub fn without(m: u32, held: u32) -> u32
     ensures { result ≡ without m held }
 {
     m - (m & held)
 }
 
-// The lowest bit of a mask, as a mask; 0 where it has none. One less has all of its bits but that one.
-fn lowest(m: u32) -> u32
-    ensures { result ≡ m - bit_and m (m - 1) }
+// The lowest bit of a mask, as a mask; none where it has no bit. One less has all of its bits but that one.
+#[tactic(auto, unfolding(crate::specs::Without::lowest_bit))]
+fn lowest(m: u32) -> Option<u32>
+    ensures { option_of result ≡ lowest_bit m }
 {
     if m == 0 {
-        return 0;
+        return None;
     }
-    m - (m & (m - 1))
+    Some(m - (m & (m - 1)))
 }
 
-// The lowest bit of a mask that another has not, as a mask; 0 where it has them all.
-pub fn lowest_without(m: u32, held: u32) -> u32
-    ensures { first_mask (λ bit. not (shares held bit)) (individual_masks m) ≡ cond (eqb result 0) none (some result) }
+// The lowest bit of a mask that another has not, as a mask; none where it has them all.
+pub fn lowest_without(m: u32, held: u32) -> Option<u32>
+    ensures { option_of result ≡ first_mask (λ bit. not (shares held bit)) (individual_masks m) }
 {
     lowest(without(m, held))
 }
@@ -92,11 +97,9 @@ pub fn extract_individual_masks(m: u32) -> Masks
         masks: [0; 32],
         count: 0,
     };
-    let mut k: u32 = 0;
-    while k < 32 {
+    for k in 0..32u32 {
         let bit: u32 = 1 << k;
         out = out.with_bit(shares(m, bit), bit);
-        k += 1;
     }
     out
 }

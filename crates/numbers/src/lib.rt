@@ -11,11 +11,10 @@ use answers::{Answered, Checked, Relocations, Report, Verdict};
 fn number_of(numbers: &[u64], which: u32) -> u64
     ensures { result ≡ number_of which numbers.now }
 {
-    let i = which as usize;
-    if i < numbers.len() {
-        return numbers[i];
+    match numbers.get(which as usize) {
+        Some(number) => *number,
+        None => 0,
     }
-    0
 }
 
 // Number `which`; and all of them as words in front of the lent bytes, where they have room.

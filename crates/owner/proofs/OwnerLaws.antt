@@ -2,14 +2,51 @@
 use Rattle.rows.{proofs.Kit.{◌≡◌, refl, sym, ◌∙◌, Bool, true, false, cond, ◌&&◌, ◌≢◌, ◌⊎◌, inl, inr, and-false, List, Option, none, some, ℕ, ◌+◌, ◌-◌, ◌*◌, ◌≤◌, ◌<◌, arith, eq-or-lt_of_le, eqb, eqb-true, eq-eqb, ltb, lt-ltb, le-ltb, get_or}, specs.Below.{any_below, first_below, count_below}, specs.Rows.{any, count_of}, proofs.Bools.{and_parts, and_both}, proofs.BelowLaws.{some_below, none_any, first_any, first_says, count_lt, count_none, count_same_tests, sum_split}}
 use Rattle.masks.specs.Masks.{matches}
 use Rattle.rules.{specs.declared.Region.Region, specs.Headers.Headers, specs.Regions.{region_passes}, specs.Accepted.NotRefused, specs.Sound.MatchingRegion, specs.Owner.{is_of_mask, owns_address, owner_of, index_count, starts_below, index_word}, proofs.RegionLaws.region_passes_lem, proofs.SoundLaws.accepted_sound, proofs.OwnerLaws.{owner_once, owner_is, owner_none, starts_differ, by_start_is, start_word, size_word, row_word, count_one_most}}
-use Rattle.by_start.{specs.ByStart.{in_order, ByStart, owned, owned_row}, proofs.OrderLaws.count_any, proofs.OwnerLaws.owns_in_place}
-use Rattle.initialization_check.{specs.declared.RelocRegions.RelocRegions, specs.Record.{entry, regions_in, HoldsRegions, HoldsRows}}
+use Rattle.by_start.{specs.declared.KeptRegions.KeptRegions, specs.ByStart.{in_order, ByStart, owned, owned_row}, proofs.OrderLaws.count_any, proofs.OwnerLaws.owns_in_place}
+use Rattle.sheet.specs.Head.{limits}
+use Rattle.sheet_headers.specs.Headers.{sheet_headers}
+use Rattle.answers.proofs.AnswerLaws.{accepted_headers}
+use Rattle.reloc_regions.specs.{declared.RelocRegions.RelocRegions, Regions.entry}
+use Rattle.initialization_check.specs.Record.{HoldsRows}
+use Rattle.query.specs.KeptFor.{KeptFor}
 
-module _ (f : Headers) (masks gpas sizes vps vtls : List ℕ) (tables : List Bool) (rows next : List ℕ) (n given : ℕ) (accepted : NotRefused f) (nonzero : given ≢ 0)
-    (regions : HoldsRegions (regions_in masks gpas sizes vps vtls tables n) f.initializations)
-    (numbers : HoldsRows f.platforms.count rows (regions_in masks gpas sizes vps vtls tables n) f.initializations) (by : ByStart next gpas n) where
-  abbrev held : RelocRegions
-  held = regions_in masks gpas sizes vps vtls tables n
+-- after a query for a mask that is not refused
+module _ {N M : ℕ} (s : List ℕ) (given : ℕ) (kept : KeptRegions N M) (stands : KeptFor s given kept) where
+  abbrev f : Headers
+  f = sheet_headers s
+
+  abbrev held : RelocRegions N
+  held = kept.regions
+
+  abbrev masks : List ℕ
+  masks = held.mask
+
+  abbrev gpas : List ℕ
+  gpas = held.gpa
+
+  abbrev sizes : List ℕ
+  sizes = held.size
+
+  abbrev rows : List ℕ
+  rows = kept.rows
+
+  abbrev next : List ℕ
+  next = kept.order.next
+
+  abbrev n : ℕ
+  n = held.count
+
+  abbrev accepted : NotRefused f
+  accepted = accepted_headers limits s stands.accepted
+
+  abbrev nonzero : given ≢ 0
+  nonzero = stands.nonzero
+
+  abbrev numbers : HoldsRows f.platforms.count rows held f.initializations
+  numbers = stands.regions.rows
+
+  abbrev by : ByStart next gpas n
+  by = stands.regions.order
 
   -- the region in place k + 1, from 0
   abbrev at : ℕ → ℕ
@@ -25,7 +62,7 @@ module _ (f : Headers) (masks gpas sizes vps vtls : List ℕ) (tables : List Boo
   owner_found gpa = go (first_below n (owns_in_place masks gpas sizes next given gpa)) refl
     where
       none_owns : any_below n (owned masks gpas sizes given gpa) ≡ false → any (region_passes (owns_address given gpa)) f.initializations ≡ false
-      none_owns e = sym (regions.same (owns_address given gpa)) ∙ e
+      none_owns e = sym (stands.regions.regions.same (owns_address given gpa)) ∙ e
 
       go : (o : Option ℕ) → first_below n (owns_in_place masks gpas sizes next given gpa) ≡ o → owned_row masks gpas sizes rows next n given gpa ≡ owner_of f given gpa
       go none e =

@@ -1,14 +1,14 @@
 -- Laws of the rows that are passed: a body that passes has no fault by itself, and what is kept of the rows before tells of the rest.
 use mathlib.Core.Bool.{beq}
-use Rattle.rows.{proofs.Kit.{◌≡◌, refl, sym, ap, ◌∙◌, Bool, true, false, cond, not, ◌&&◌, ◌||◌, List, ◌⊎◌, inl, inr, Option, none, some, ℕ, ◌+◌, ◌^◌, ◌≤◌, ◌<◌, zero-add, add-one, arith, bit_or, eqb, leb, ltb, length, take, drop, eqb-true, eqb-false, leb-true, ltb-true, lt-ltb, not-false}, specs.Below.{any_below, last_below}, specs.Rows.{Rows, any, before, row_at}, proofs.Bools.{not_both, is_false, or_left, or_right, or_cases, or_false_parts, and_parts}, proofs.BelowLaws.{top, none_any, any_more, last_more}}
+use Rattle.rows.{proofs.Kit.{◌≡◌, refl, sym, ap, ◌∙◌, Bool, true, false, cond, not, ◌&&◌, ◌||◌, List, ◌⊎◌, inl, inr, Option, none, some, ℕ, ◌+◌, ◌^◌, ◌≤◌, ◌<◌, zero-add, add-one, arith, bit_or, eqb, leb, ltb, length, take, drop, eqb-true, eqb-false, leb-true, ltb-true, lt-ltb, not-false, length-take, length-drop}, specs.Below.{any_below, last_below}, specs.Rows.{Rows, any, before, row_at}, proofs.Bools.{not_both, is_false, or_left, or_right, or_cases, or_false_parts, and_parts}, proofs.BelowLaws.{top, none_any, any_more, last_more}}
 use Rattle.igvm_defs.{specs.declared.Arch.Arch, specs.declared.Arch.TheVariants.{X64, AArch64}, specs.Kinds.{kind_of, spans, length_ok}, specs.Refusals.is_fault, specs.Revision.is_x64, specs.Platforms.{platform_type, platform_types, is_platform_type, platform_type_of}, proofs.Runs.{◌⨾◌, each}, proofs.RefusalLaws.no_fault_lem}
 use Rattle.masks.{specs.Masks.{shares, is_one_bit, has_bit}, proofs.MaskLaws.{shares_or, one_bit_alone, bit_set}}
 use Rattle.sheet.{specs.declared.Cursor.Cursor, specs.Head.head_of, specs.Table.{row_kind, row_length, offset_of, body_of}, specs.Read.codes_ok, specs.Walk.ReadTo, proofs.Readable.{RowOk, platform_list_lem}}
-use Rattle.sheet_reader.{specs.declared.SheetRow.SheetRow, specs.Reading.{read_at, cursor_after}, proofs.ReaderLaws.{kind_found, room_row, body_found, read_after}}
+use Rattle.sheet_reader.{specs.declared.SheetRow.SheetRow, specs.Reading.cursor_after, proofs.ReaderLaws.{Found, room_row, body_found, read_after}}
 use Rattle.platform_header.{specs.declared.IgvmPlatformHeader.IgvmPlatformHeader, specs.Platforms.{supported_platform_of, platform_of}}
 use Rattle.sheet_headers.{specs.Headers.sheet_headers, proofs.ListLaws.platform_header}
 use Rattle.rules.{specs.Options.passes, specs.Platforms.{validate_platform, stands_with, same_type, is_cca, last_is_cca, own_platform_fault}, specs.Verdict.platform_faults, proofs.FaultLaws.{refuse_none, or_none}, proofs.Acceptance.platform_says}
-use Rattle.platform_accept.specs.Accepted.{HoldsCca, PlatformsAccepted}
+use Rattle.platform_accept.specs.Accepted.{HoldsCca, InOrder, PlatformsAccepted}
 
 -- ---- a body by itself
 
@@ -169,20 +169,20 @@ reached_none s c r e =
 
 -- the row at the cursor passes
 pub reached_more : (s : List ℕ) (c : Cursor) (seen cca : ℕ) (b : List ℕ) (h : IgvmPlatformHeader) (r : SheetRow) → Reached s c seen cca → c.row < (head_of s).platforms
-    → r ≡ read_at s c.row c.at → r.kind ≡ 1 → r.length ≡ 16 → b ≡ take r.length (drop c.at s)
-    → h ≡ supported_platform_of b → is_fault (own_platform_fault (sheet_headers s).arch h) ≡ false
+    → Found s c.row c.at r → b ≡ take r.length (drop c.at s) → InOrder (sheet_headers s).arch r.kind b h
     → (shares seen (2 ^ h.platform_type) || (not (eqb h.platform_type 6) && shares cca h.compatibility_mask)) ≡ false
     → Reached s (cursor_after c r) (bit_or seen (2 ^ h.platform_type)) (cond (eqb h.platform_type 6) (bit_or cca h.compatibility_mask) cca)
 unfolding has_bit
-reached_more s c seen cca b h r was l e kind len part told own free =
+reached_more s c seen cca b h r was l f part fit free =
     let k = c.row in let xs = (sheet_headers s).platforms in let read = was.accepted.read in
-    let f = kind_found s k c.at r e (omega arith) in
-    let row : h ≡ xs.row k = told ∙ ap supported_platform_of (part ∙ body_found s c read r f) ∙ header_is s k in
+    let row : h ≡ xs.row k = fit.says ∙ ap supported_platform_of (part ∙ body_found s c read r f) ∙ header_is s k in
     let (new, cca-free) = or_false_parts (shares seen (2 ^ h.platform_type)) _ free in
-    let reads = row_reads s k l (rw (← f.kind) kind) (rw (← f.size) len) (room_row s c read r f) in
-    let (one, _) = own_says (sheet_headers s).arch h own in
+    let len : length (take r.length (drop c.at s)) ≡ 16 = rw (← part) fit.length_is in
+    let long : r.length ≡ 16 = let m = simp (length-take, length-drop) at len in let q = f.room in omega arith in
+    let reads = row_reads s k l (rw (← f.kind) fit.kind_is) (rw (← f.size) long) (room_row s c read r f) in
+    let (one, _) = own_says (sheet_headers s).arch h fit.sound in
     let good : is_fault (platform_faults (sheet_headers s) k) ≡ false =
-    rw (← row) ((platform_says (sheet_headers s).arch (before k xs) h).1 (own, type_new seen (before k xs) h was.types new)) in
+    rw (← row) ((platform_says (sheet_headers s).arch (before k xs) h).1 (fit.sound, type_new seen (before k xs) h was.types new)) in
     record {
       accepted = record {
         read = read_after s c read r f (omega arith) reads;

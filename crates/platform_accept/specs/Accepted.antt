@@ -1,16 +1,24 @@
 -- How far the platform rows of a byte string are in order, and what the rows passed tell.
-use Rattle.std.specs.Prelude.{ℕ, ◌^◌, ◌<◌, ◌≤◌, true, false, List, ◌≡◌}
+use Rattle.std.specs.Prelude.{ℕ, ◌^◌, ◌<◌, ◌≤◌, true, false, List, length, ◌≡◌}
 use Rattle.rows.specs.Below.{any_below}
 use Rattle.rows.specs.Rows.{Rows, before}
-use Rattle.igvm_defs.specs.Refusals.{is_fault}
+use Rattle.igvm_defs.specs.{declared.Arch.Arch, Refusals.is_fault}
 use Rattle.masks.specs.Masks.{has_bit}
 use Rattle.platform_header.specs.declared.IgvmPlatformHeader.{IgvmPlatformHeader}
+use Rattle.platform_header.specs.Platforms.{supported_platform_of}
 use Rattle.sheet.specs.declared.Cursor.{Cursor}
 use Rattle.sheet.specs.Head.{head_of}
 use Rattle.sheet.specs.Walk.{ReadTo}
 use Rattle.sheet_headers.specs.Headers.{sheet_headers}
-use Rattle.rules.specs.Platforms.{last_is_cca}
+use Rattle.rules.specs.Platforms.{own_platform_fault, last_is_cca}
 use Rattle.rules.specs.Verdict.{platform_faults}
+
+-- a row's kind and body say a platform in 16 bytes that has no fault by itself
+pub record InOrder (a : Arch) (kind : ℕ) (b : List ℕ) (h : IgvmPlatformHeader) : Type 0 where
+  pub kind_is : kind ≡ 1
+  pub length_is : length b ≡ 16
+  pub says : h ≡ supported_platform_of b
+  pub sound : is_fault (own_platform_fault a h) ≡ false
 
 -- of every bit of the mask, the last platform whose mask is that bit is CCA
 abbrev pub HoldsCca : ℕ → Rows IgvmPlatformHeader → Type 0

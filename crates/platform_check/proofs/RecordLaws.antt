@@ -1,5 +1,5 @@
 -- The record of platform rows answers for the rows that it holds.
-use Rattle.rows.{proofs.Kit.{◌≡◌, refl, sym, ap, ◌∙◌, Bool, List, ◌⊎◌, inl, inr, Option, none, some, ℕ, ◌+◌, ◌≤◌, ◌<◌, add-one, arith, eqb, length, get_or, set, get_or-set_same, get_or-set_other}, specs.Below.{any_below, last_below}, specs.Rows.{Rows, any, row_at, before}, proofs.BelowLaws.{top, any_same_tests, last_same_tests, last_says}}
+use Rattle.rows.{proofs.Kit.{◌≡◌, refl, sym, ap, ◌∙◌, Bool, List, ◌⊎◌, inl, inr, Option, none, some, ℕ, suc, ◌+◌, ◌≤◌, ◌<◌, arith, eqb, length, get_or, set, get_or-set_same, get_or-set_other}, specs.Below.{any_below, last_below}, specs.Rows.{Rows, any, row_at, more}, proofs.BelowLaws.{top, any_same_tests, last_same_tests, last_says}, proofs.SameLaws.{more_last, more_row}}
 use Rattle.platform_header.specs.declared.IgvmPlatformHeader.{IgvmPlatformHeader}
 use Rattle.rules.{specs.Options.passes, specs.Platforms.{same_type, is_cca, last_is_cca}}
 use Rattle.platform_check.specs.{declared.Platforms.Platforms, Record.{HoldsPlatforms, last_type_is_cca}}
@@ -42,22 +42,21 @@ holds_cca r xs mask held = rw same (go (last_below xs.count p) refl)
 
 -- a number stored behind those of the rows
 stored : (l : List ℕ) (n v : ℕ) (f : ℕ → ℕ) → n < length l → f n ≡ v → ((j : ℕ) → j < n → get_or l j 0 ≡ f j)
-    → (j : ℕ) → j < n + 1 → get_or (set l n v) j 0 ≡ f j
-stored l n v f room e same j h = go (top (rw add-one at h))
+    → (j : ℕ) → j < suc n → get_or (set l n v) j 0 ≡ f j
+stored l n v f room e same j h = go (top h)
   where
     go : (j ≡ n) ⊎ (j < n) → get_or (set l n v) j 0 ≡ f j
     go (inl q) = rw (q, get_or-set_same l n v 0 room) (sym e)
     go (inr k) = rw (get_or-set_other l n j v 0 (λ q. omega arith)) (same j k)
 
 -- one row more
-pub holds_more : (r : Platforms) (mask type : ℕ) → r.count < 16 → length r.mask ≡ 16 → length r.types ≡ 16
-    → (xs : Rows IgvmPlatformHeader) (i : ℕ) → (xs.row i).compatibility_mask ≡ mask → (xs.row i).platform_type ≡ type → HoldsPlatforms r (before i xs)
-    → HoldsPlatforms (record { mask = set r.mask r.count mask; types = set r.types r.count type; count = r.count + 1 }) (before (i + 1) xs)
-holds_more r mask type room lm lt xs i em et held =
-    let e : r.count ≡ i = held.count in
+pub holds_more : (r : Platforms) (xs : Rows IgvmPlatformHeader) (h : IgvmPlatformHeader) → r.count < 16 → length r.mask ≡ 16 → length r.types ≡ 16 → HoldsPlatforms r xs
+    → HoldsPlatforms (record { mask = set r.mask r.count h.compatibility_mask; types = set r.types r.count h.platform_type; count = r.count + 1 }) (more xs h)
+holds_more r xs h room lm lt held =
+    let e : r.count ≡ xs.count = held.count in
     record {
-      count = rw e;
+      count = omega arith;
       room = omega arith;
-      mask = rw e (stored r.mask i mask (λ j. (xs.row j).compatibility_mask) (omega arith) em held.mask);
-      type = rw e (stored r.types i type (λ j. (xs.row j).platform_type) (omega arith) et held.type);
+      mask = rw e (stored r.mask xs.count h.compatibility_mask (λ j. ((more xs h).row j).compatibility_mask) (omega arith) (rw (more_last xs h)) (λ j l. rw (more_row xs h j l) (held.mask j l)));
+      type = rw e (stored r.types xs.count h.platform_type (λ j. ((more xs h).row j).platform_type) (omega arith) (rw (more_last xs h)) (λ j l. rw (more_row xs h j l) (held.type j l)));
     }

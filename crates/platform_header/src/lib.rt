@@ -2,8 +2,10 @@
 #![tactic(auto)]
 
 ghost use Rattle.std.specs.Prelude.{◌≡◌, ◌≤◌, length};
-ghost use Rattle.igvm_defs.specs.Kinds.{kind_of, platform_list};
+ghost use Rattle.igvm_defs.specs.Kinds.{platform_list};
 ghost use Rattle.platform_header.specs.Platforms.{platform_of, supported_platform_of};
+
+use header::Header;
 
 // The Rust's enum has one variant, SupportedPlatform, which holds these fields. An enum of one variant can't be taken apart in covered
 // code, so a struct stands for it.
@@ -29,11 +31,13 @@ fn supported_platform(b: &[u8]) -> IgvmPlatformHeader
     }
 }
 
-// The header that a row's kind and body say.
-pub fn decode(kind: u32, body: &[u8]) -> IgvmPlatformHeader
-    requires kind_value { (kind_of kind).list ≡ platform_list }
-    requires kind_in_bounds { (kind_of kind).least ≤ length body.now }
-    ensures { result ≡ platform_of kind body.now }
-{
-    supported_platform(body)
+impl Header for IgvmPlatformHeader {
+    ghost list = { platform_list };
+
+    ghost header_of = { platform_of };
+
+    #[tactic(auto, unfolding(igvm_defs::specs::Kinds::kind_of, igvm_defs::specs::Kinds::spans, crate::specs::Platforms::platform_of))]
+    fn decode(_kind: u32, body: &[u8]) -> IgvmPlatformHeader {
+        supported_platform(body)
+    }
 }

@@ -1,4 +1,3 @@
-mod RegionLaws
 mod WordLaws
 mod InLaws
 pub mod AgreementLaws

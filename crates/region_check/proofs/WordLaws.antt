@@ -1,7 +1,7 @@
 -- Words of a region: each below 2^64, and read back from a part of the lent bytes.
 use native.Mathlib.Nat.{mul-le-mul_left}
 use lib.Seq.{get_or-drop}
-use Rattle.rows.{proofs.Kit.{ℕ, zero, suc, ◌+◌, ◌*◌, ◌/◌, ◌%◌, ◌^◌, ◌≤◌, ◌<◌, pow-succ', ◌≡◌, ap, ◌∙◌, Bool, true, false, cond, List, Option, none, some, take, drop, get_or, get_or-take, get_or-eq_default, length-take, eqb, dec_lt, arith}, specs.Below.{sum_below, nth_below}, specs.Rows.{Rows, row_at}, proofs.Bools.which, proofs.BelowLaws.{sum_cong}}
+use Rattle.rows.{proofs.Kit.{ℕ, zero, suc, ◌+◌, ◌*◌, ◌/◌, ◌%◌, ◌^◌, ◌≤◌, ◌<◌, pow-succ', ◌≡◌, ap, ◌∙◌, Bool, true, false, cond, List, Option, none, some, take, drop, get_or, get_or-take, get_or-eq_default, length-take, eqb, dec_lt, arith}, specs.Below.{sum_below, nth_below}, specs.Rows.{Rows, row_at}, proofs.BelowLaws.{sum_cong}}
 use Rattle.le.specs.Le.{byte_at, le_at}
 use Rattle.igvm_defs.{specs.Vtls.vtl_of, proofs.VtlLaws.vtl_below}
 use Rattle.initialization_header.{specs.declared.IgvmInitializationHeader.IgvmInitializationHeader, specs.Initializations.{initialization_of, guest_policy_of, cca_policy_of, relocatable_region_of, page_table_relocation_region_of}}

@@ -1,3 +1,2 @@
 mod WordLaws
-mod TableLaws
 mod WalkLaws

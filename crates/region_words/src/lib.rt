@@ -1,21 +1,22 @@
 // The words of a mask's regions in lent bytes, in header order, and its page-table region, in one walk over the initialization rows.
 #![tactic(auto)]
 
-ghost use Rattle.std.specs.Prelude.{◌≡◌, true, cond, ◌&&◌, ◌+◌, ◌*◌, ◌≤◌, eqb, length};
-ghost use Rattle.std.proofs.Math.Option.{none};
+ghost use Rattle.std.specs.Prelude.{◌≡◌, true, cond, ◌&&◌, ◌+◌, ◌*◌, ◌≤◌, is_none, length};
+ghost use Rattle.rows.specs.Answered.{option_of};
 ghost use Rattle.le.specs.Le.{byte_at};
 ghost use Rattle.igvm_defs.specs.Kinds.{kind_of, initialization_list};
 ghost use Rattle.sheet.specs.Head.{initialization_rows, limits, head_of};
-ghost use Rattle.sheet.specs.Table.{row_kind, body_of};
-ghost use Rattle.sheet.specs.Read.{codes_ok, Readable};
+ghost use Rattle.sheet.specs.Read.{codes_ok};
 ghost use Rattle.initialization_header.specs.Initializations.{initialization_of, relocatable_region_of};
 ghost use Rattle.rules.specs.Relocations.{is_relocatable, is_page_table, relocatable_of, page_table_of, region_count, region_at, page_table_at};
 ghost use Rattle.lent.specs.Lent.{row_put, rows_put};
 ghost use Rattle.answers.specs.Relocations.{sheet_initializations, region_words};
-ghost use Rattle.regions.specs.Found.{found_table};
+ghost use Rattle.region_words.specs.Puts.{Puts};
 
-use regions::FoundTable;
-use sheet::SheetHead;
+use header::Header;
+use initialization_header::IgvmInitializationHeader;
+use rules::PageTableRegion;
+use sheet::ReadableSheet;
 
 // ---- one row, by its kind and its body
 
@@ -72,86 +73,75 @@ fn put_region(given: u32, kind: u32, b: &[u8], n: usize, words: &mut [u8]) -> us
     n
 }
 
-// The row of the mask's first page table: t, or this row where t is still the end.
-fn table_row(given: u32, kind: u32, b: &[u8], row: usize, t: usize, end: usize) -> usize
+// The page table that was found, else the row's, where it is one of the mask.
+fn first_table(
+    given: u32,
+    kind: u32,
+    b: &[u8],
+    found: Option<PageTableRegion>,
+) -> Option<PageTableRegion>
     requires { ((kind_of kind).list ≡ initialization_list) × ((kind_of kind).least ≤ length b.now) }
-    ensures { result ≡ cond (is_page_table given (initialization_of kind b.now) && eqb t end) row t }
+    ensures { option_of result ≡ cond (is_none found && is_page_table given (initialization_of kind b.now)) (page_table_of (initialization_of kind b.now)) (option_of found) }
 {
-    if is_table(given, kind, b) & (t == end) {
-        return row;
+    if found.is_none() & is_table(given, kind, b) {
+        return regions::page_table_of(IgvmInitializationHeader::decode(kind, b));
     }
-    t
+    found
 }
 
 // ---- over the initialization rows of a readable sheet
 
-// The page table of row t; none where t is the end of the rows.
-fn found_table(s: &[u8], t: usize, end: usize) -> FoundTable
-    requires { Readable limits s.now × ((head_of s.now).platforms ≤ t) × (t ≤ end) × (end ≡ (head_of s.now).platforms + (head_of s.now).initializations) }
-    ensures { result ≡ cond (eqb t end) (found_table none) (found_table (page_table_of (initialization_of (row_kind s.now t) (body_of s.now t)))) }
-{
-    if t == end {
-        return FoundTable {
-            found: false,
-            table: regions::NO_PAGE_TABLE,
-        };
-    }
-    let row = sheet_headers::initialization_at(s, sheet_reader::cursor_at(s, t));
-    let h = row.header;
-    regions::page_table_of(h)
-}
-
 // How many regions were put, and the page-table region.
 #[derive(Clone, Copy)]
 pub struct PutRegions {
-    pub table: FoundTable,
+    pub table: Option<PageTableRegion>,
     pub count: usize,
 }
 
 // The words of the mask's regions, in header order, in front of `words`, which is not the caller's; counts them and finds its page-table region on the way.
-fn collect(s: &[u8], head: SheetHead, given: u32, words: &mut [u8]) -> PutRegions
-    requires { Readable limits s.now × (head ≡ head_of s.now) × (64 * region_count (sheet_initializations s.now) given ≤ length words.old) }
-    ensures table_value { (result.table ≡ found_table (page_table_at (sheet_initializations s.now) given)) × (result.count ≡ region_count (sheet_initializations s.now) given) }
-    ensures words_after { words.new ≡ rows_put (region_count (sheet_initializations s.now) given) (λ n. region_words (region_at (sheet_initializations s.now) given n)) words.old }
+fn collect(s: &ReadableSheet<'_>, given: u32, words: &mut [u8]) -> PutRegions
+    requires { 64 * region_count (sheet_initializations s.now.bytes.now) given ≤ length words.old }
+    ensures table_value { (option_of result.table ≡ page_table_at (sheet_initializations s.now.bytes.now) given) × (result.count ≡ region_count (sheet_initializations s.now.bytes.now) given) }
+    ensures words_after { words.new ≡ rows_put (region_count (sheet_initializations s.now.bytes.now) given) (λ n. region_words (region_at (sheet_initializations s.now.bytes.now) given n)) words.old }
 {
-    let first = head.platforms as usize;
-    let end = first + (head.initializations as usize);
-    let mut c = sheet_reader::cursor_at(s, first);
-    let mut t = end;
+    let mut c = sheet_reader::cursor_at(s, s.head.platforms as usize);
+    let mut table: Option<PageTableRegion> = None;
     let mut count: usize = 0;
-    while c.row < end {
-        let row = sheet_reader::cursor_row(s, c);
-        let b = sheet_reader::cursor_body(s, c);
-        t = table_row(given, row.kind, b, c.row, t, end);
+    for _ in 0..s.head.initializations {
+        let row = sheet_reader::cursor_row(s.bytes, c);
+        let b = sheet_reader::cursor_body(s.bytes, c);
+        table = first_table(given, row.kind, b, table);
         count = put_region(given, row.kind, b, count, words);
         c = row.next;
     }
-    PutRegions {
-        table: found_table(s, t, end),
-        count,
-    }
+    PutRegions { table, count }
 }
 
-// Puts the words of the mask's regions into the lent bytes, all at once. They are collected in 4, 16 or 64 rows of its own: fewer take less time to clear.
-pub fn put_regions(s: &[u8], head: SheetHead, given: u32, words: &mut [u8]) -> PutRegions
-    requires { Readable limits s.now × (head ≡ head_of s.now) × (64 * region_count (sheet_initializations s.now) given ≤ length words.old) }
-    ensures table_value { (result.table ≡ found_table (page_table_at (sheet_initializations s.now) given)) × (result.count ≡ region_count (sheet_initializations s.now) given) }
-    ensures words_after { words.new ≡ rows_put (region_count (sheet_initializations s.now) given) (λ n. region_words (region_at (sheet_initializations s.now) given n)) words.old }
+// Puts the words of the mask's regions into the lent bytes, all at once, where eight words are lent for each. They are collected in BYTES bytes of its own.
+fn put_through<const BYTES: usize>(
+    s: &ReadableSheet<'_>,
+    given: u32,
+    words: &mut [u8],
+) -> Option<PutRegions>
+    requires { (64 * s.now.head.initializations ≤ BYTES) × (BYTES ≤ 4096) }
+    ensures { Puts (sheet_initializations s.now.bytes.now) given words.old result words.new }
 {
-    if head.initializations <= 4 {
-        let mut few: [u8; 256] = [0; 256];
-        let found = collect(s, head, given, &mut few);
-        lent::put_bytes(words, &few, 64 * found.count);
-        return found;
+    let mut collected: [u8; BYTES] = [0; BYTES];
+    let put = collect(s, given, &mut collected);
+    if words.len() / 8 < 8 * put.count {
+        return None;
     }
-    if head.initializations <= 16 {
-        let mut some: [u8; 1024] = [0; 1024];
-        let found = collect(s, head, given, &mut some);
-        lent::put_bytes(words, &some, 64 * found.count);
-        return found;
+    lent::put_bytes(words, &collected, 64 * put.count);
+    Some(put)
+}
+
+// By the number of initialization rows the words are collected in 4, 16 or 64 rows: fewer take less time to clear.
+pub fn put_regions(s: &ReadableSheet<'_>, given: u32, words: &mut [u8]) -> Option<PutRegions>
+    ensures { Puts (sheet_initializations s.now.bytes.now) given words.old result words.new }
+{
+    match s.head.initializations {
+        0..=4 => put_through::<256>(s, given, words),
+        5..=16 => put_through::<1024>(s, given, words),
+        _ => put_through::<4096>(s, given, words),
     }
-    let mut all: [u8; 4096] = [0; 4096];
-    let found = collect(s, head, given, &mut all);
-    lent::put_bytes(words, &all, 64 * found.count);
-    found
 }

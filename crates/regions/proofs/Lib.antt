@@ -1,4 +1,3 @@
 pub mod HeaderLaws
 pub mod FoundLaws
 pub mod TurnLaws
-pub mod CountLaws

@@ -6,41 +6,46 @@ ghost use Rattle.std.specs.Prelude.{◌*◌, ◌<◌, ◌≤◌, length};
 
 use std::io::{BufWriter, Write};
 use std::{env, io};
-use stored_calls::Call;
+use stored_calls::{Call, CallKind};
 
 fn ask(c: Call, sheet: &[u8], lent: &mut [u8], which: u32) -> u64 {
-    let code = c.code;
-    match code {
-        0 => igvm::igvm_verdict(sheet, which),
-        1 => igvm::igvm_relocations(sheet, c.mask, lent, which),
-        2 => igvm::igvm_relocation_base_valid(sheet, c.mask, c.region, c.value, which),
-        4 => igvm::igvm_region_base_valid(sheet, c.value),
-        5 => igvm::igvm_region_contains(sheet, c.value),
-        6 => igvm::igvm_relocation_base_range(sheet, c.mask, c.region, c.value, c.highest, which),
-        7 => igvm::igvm_strict_verdict(sheet, which),
-        8 => igvm::igvm_report(sheet, lent, which),
-        9 => igvm::igvm_region_of(sheet, c.mask, c.value, which),
-        10 => igvm::igvm_region_index(sheet, c.mask, lent, which),
-        11 => igvm::igvm_region_in(sheet, c.value),
-        _ => igvm::igvm_contains(sheet, c.mask, c.region, c.value, which),
+    match c.kind {
+        CallKind::Verdict => igvm::igvm_verdict(sheet, which),
+        CallKind::Relocations => igvm::igvm_relocations(sheet, c.mask, lent, which),
+        CallKind::RelocationBaseValid => {
+            igvm::igvm_relocation_base_valid(sheet, c.mask, c.region, c.value, which)
+        }
+        CallKind::Contains => igvm::igvm_contains(sheet, c.mask, c.region, c.value, which),
+        CallKind::RegionBaseValid => igvm::igvm_region_base_valid(sheet, c.value),
+        CallKind::RegionContains => igvm::igvm_region_contains(sheet, c.value),
+        CallKind::RelocationBaseRange => {
+            igvm::igvm_relocation_base_range(sheet, c.mask, c.region, c.value, c.highest, which)
+        }
+        CallKind::StrictVerdict => igvm::igvm_strict_verdict(sheet, which),
+        CallKind::Report => igvm::igvm_report(sheet, lent, which),
+        CallKind::RegionOf => igvm::igvm_region_of(sheet, c.mask, c.value, which),
+        CallKind::RegionIndex => igvm::igvm_region_index(sheet, c.mask, lent, which),
+        CallKind::RegionIn => igvm::igvm_region_in(sheet, c.value),
     }
 }
 
 // ---- the sibling of the call, which puts all numbers of the answer into lent bytes, held to the numbers that the call gave one by one
 
+// A call of one number has no sibling, and is not asked for it.
 fn ask_all(c: Call, sheet: &[u8], words: &mut [u8], numbers: &mut [u8]) -> u64 {
-    let code = c.code;
-    match code {
-        0 => igvm::igvm_verdict_numbers(sheet, numbers),
-        1 => igvm::igvm_relocations_numbers(sheet, c.mask, words, numbers),
-        2 => igvm::igvm_relocation_base_valid_numbers(sheet, c.mask, c.region, c.value, numbers),
-        6 => igvm::igvm_relocation_base_range_numbers(
+    match c.kind {
+        CallKind::Verdict => igvm::igvm_verdict_numbers(sheet, numbers),
+        CallKind::Relocations => igvm::igvm_relocations_numbers(sheet, c.mask, words, numbers),
+        CallKind::RelocationBaseValid => {
+            igvm::igvm_relocation_base_valid_numbers(sheet, c.mask, c.region, c.value, numbers)
+        }
+        CallKind::RelocationBaseRange => igvm::igvm_relocation_base_range_numbers(
             sheet, c.mask, c.region, c.value, c.highest, numbers,
         ),
-        7 => igvm::igvm_strict_verdict_numbers(sheet, numbers),
-        8 => igvm::igvm_report_numbers(sheet, words, numbers),
-        9 => igvm::igvm_region_of_numbers(sheet, c.mask, c.value, numbers),
-        10 => igvm::igvm_region_index_numbers(sheet, c.mask, words, numbers),
+        CallKind::StrictVerdict => igvm::igvm_strict_verdict_numbers(sheet, numbers),
+        CallKind::Report => igvm::igvm_report_numbers(sheet, words, numbers),
+        CallKind::RegionOf => igvm::igvm_region_of_numbers(sheet, c.mask, c.value, numbers),
+        CallKind::RegionIndex => igvm::igvm_region_index_numbers(sheet, c.mask, words, numbers),
         _ => igvm::igvm_contains_numbers(sheet, c.mask, c.region, c.value, numbers),
     }
 }
@@ -62,12 +67,10 @@ fn returns_same(c: Call, sheet: &[u8], lent: &[u8], first: u64, numbers: &mut [u
 fn words_are(b: &[u8], numbers: &[u64]) -> bool
     requires { 8 * length numbers.now ≤ length b.now }
 {
-    let mut k = 0;
-    while k < numbers.len() {
-        if le::u64_at(b, 8 * k) != numbers[k] {
+    for (k, number) in numbers.iter().enumerate() {
+        if le::u64_at(b, 8 * k) != *number {
             return false;
         }
-        k += 1;
     }
     true
 }
@@ -108,24 +111,13 @@ fn all_same(c: Call, sheet: &[u8], lent: &[u8], found: &[u64]) -> bool
 
 // ---- the line
 
-// A number of the answer.
-fn write_found<W: Write>(out: &mut W, n: u64) -> io::Result<()> {
-    write!(out, " {n}")
-}
-
-fn write_byte<W: Write>(out: &mut W, b: u8) -> io::Result<()> {
-    write!(out, "{b:02x}")
-}
-
 // Groups of eight bytes.
 fn write_bytes<W: Write>(out: &mut W, b: &[u8]) -> io::Result<()> {
-    let mut i = 0;
-    while i < b.len() {
+    for (i, byte) in b.iter().enumerate() {
         if i % 8 == 0 {
             out.write_all(b" ")?;
         }
-        write_byte(out, b[i])?;
-        i += 1;
+        write!(out, "{byte:02x}")?;
     }
     Ok(())
 }
@@ -174,12 +166,10 @@ fn write_answer<W: Write>(out: &mut W, c: Call, sheet: &[u8], lent: &mut [u8]) -
 {
     let n = c.numbers;
     let mut found = [0u64; 11];
-    let mut which = 0;
-    while which < n {
+    for which in 0..n {
         let number = ask(c, sheet, lent, which);
-        write_found(out, number)?;
+        write!(out, " {number}")?;
         found[which as usize] = number;
-        which += 1;
     }
     finish(out, c, sheet, lent, &found)
 }
@@ -197,10 +187,9 @@ fn replay_record<W: Write>(out: &mut W, one: &[u8]) -> io::Result<()>
 fn replay<W: Write>(out: &mut W, s: &[u8]) -> io::Result<()> {
     let mut at = 0;
     while at < s.len() {
-        let n = stored_calls::record_length(s, at);
-        if n < 40 {
+        let Some(n) = stored_calls::record_length(s, at) else {
             return out.write_all(b"a record that is not whole\n");
-        }
+        };
         let end = at + n;
         replay_record(out, &s[at..end])?;
         at = end;

@@ -2,7 +2,7 @@
 use Rattle.rows.{proofs.Kit.{◌≡◌, refl, sym, ap, ◌∙◌, Bool, true, false, ◌&&◌, or-false, List, ℕ, ◌+◌, ◌*◌, ◌/◌, ◌≤◌, ◌<◌, zero-add, arith, dec_lt, eqb, ltb, eqb-true, ne_eqb, lt-ltb, ltb-true, length}, proofs.Bools.{not_both, and_parts, and_both}, proofs.BelowLaws.count_le}
 use Rattle.igvm_defs.{specs.declared.Refusal.Refusal, specs.Refusals.{refusal, no_refusal, no_fault, is_fault, is_refusal}, proofs.RefusalLaws.{refuse_fault, no_fault_lem}}
 use Rattle.lent.{specs.Lent.words_put, proofs.LentLaws.{words_join, words_same}}
-use Rattle.sheet.{specs.Head.{limits, head_of, row_count, first_directive}, specs.Read.{Readable, sheet_refusal}, proofs.Readable.{readable_bounds, sheet_says}}
+use Rattle.sheet.{specs.Head.{limits, head_of, row_count, first_directive}, specs.Read.{Readable, sheet_refusal}, proofs.Readable.{readable_bounds}}
 use Rattle.sheet_headers.{specs.Headers.sheet_headers, proofs.HeaderLaws.sheet_counts}
 use Rattle.rules.{specs.Verdict.no_platform, specs.Report.{platform_report, kept_platforms, faulty_platforms, initialization_report, faulty_initializations, directive_report, faulty_directives, report_word, faulty_rows, report_no_platform, report_no_context}, proofs.ReportLaws.faulty_lists}
 use Rattle.platform_check.{specs.declared.Platforms.Platforms, specs.Record.HoldsPlatforms}
@@ -32,9 +32,6 @@ module _ (s b : List ℕ) where
 
   pub given : is_refusal (sheet_refusal limits s) ≡ false → row_count (head_of s) ≤ length b / 8 → is_refusal (report_refusal limits s (length b)) ≡ false
   given p l = (report_given limits s (length b)).1 (p, l)
-
-  pub readable : is_refusal (report_refusal limits s (length b)) ≡ false → Readable limits s
-  readable e = ((sheet_says limits s).0 ((report_given limits s (length b)).0 e).0).0
 
   pub room : is_refusal (report_refusal limits s (length b)) ≡ false → 8 * row_count (head_of s) ≤ length b
   room e = let l = ((report_given limits s (length b)).0 e).1 in omega arith

@@ -4,13 +4,13 @@
 ghost use Rattle.std.specs.Prelude.{◌≡◌, true, false, ◌*◌, ◌≤◌, length};
 ghost use Rattle.igvm_defs.specs.Refusals.{is_refusal};
 ghost use Rattle.sheet.specs.Head.{limits, head_of, row_count};
-ghost use Rattle.sheet.specs.Read.{Readable, sheet_refusal};
+ghost use Rattle.sheet.specs.Read.{sheet_refusal};
 ghost use Rattle.answers.specs.Verdict.{verdict_refusal};
 ghost use Rattle.answers.specs.Report.{report_refusal, report_of, report_after};
 
 use answers::Report;
 use igvm_defs::Refusal;
-use sheet::SheetHead;
+use sheet::{ReadableSheet, SheetHead};
 
 // The answer to a call that is refused.
 pub fn refused(refusal: Refusal) -> Report
@@ -33,25 +33,21 @@ const WORDS: Refusal = Refusal {
 };
 
 // The rows' words, list after list. Nothing of what refuses the call applies.
-fn report_rows(s: &[u8], head: SheetHead, words: &mut [u8]) -> Report
-    requires { Readable limits s.now × (head ≡ head_of s.now) × (8 * row_count (head_of s.now) ≤ length words.old) × (is_refusal (report_refusal limits s.now (length words.old)) ≡ false) }
-    ensures value { result ≡ report_of limits s.now (length words.old) }
-    ensures words_after { words.new ≡ report_after limits s.now words.old }
+fn report_rows(s: &ReadableSheet<'_>, words: &mut [u8]) -> Report
+    requires { (8 * row_count (head_of s.now.bytes.now) ≤ length words.old) × (is_refusal (report_refusal limits s.now.bytes.now (length words.old)) ≡ false) }
+    ensures value { result ≡ report_of limits s.now.bytes.now (length words.old) }
+    ensures words_after { words.new ≡ report_after limits s.now.bytes.now words.old }
 {
-    let platforms = platform_pass::report_platform_headers(s, head, words);
-    let kept = platforms.platforms;
-    let initializations = initialization_pass::report_initialization_headers(s, head, kept, words);
-    let directives = directive_report::report_directive_headers(
-        s,
-        head,
-        initializations.regions,
-        words,
-    );
+    let platforms = platform_pass::report_platform_headers(s, words);
+    let kept = &platforms.platforms;
+    let initializations = initialization_pass::report_initialization_headers(s, kept, words);
+    let regions = &initializations.regions;
+    let directives = directive_report::report_directive_headers(s, regions, words);
     Report {
         refusal: Refusal::NONE,
         no_platform: kept.count == 0,
         no_context: directives.no_context,
-        rows: head.rows() as u64,
+        rows: s.head.rows() as u64,
         faulty: (platforms.faulty + initializations.faulty + directives.faulty) as u64,
     }
 }
@@ -66,7 +62,7 @@ fn report_each(s: &[u8], words: &mut [u8]) -> Report
     if words.len() / 8 < head.rows() {
         return refused(WORDS);
     }
-    report_rows(s, head, words)
+    report_rows(&ReadableSheet { bytes: s, head }, words)
 }
 
 // An accepted sheet of n rows: no row is faulty. Where too few words are lent, `report_each` says so: a function that is called from two places keeps its

@@ -3,3 +3,4 @@ pub mod Rows
 pub mod Same
 pub mod Lists
 pub mod Paired
+pub mod Answered

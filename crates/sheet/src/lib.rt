@@ -1,11 +1,15 @@
 // The head of a sheet, refusals 1, 2, 3 and 7, and its table of contents; a cursor, which is a place among the rows.
 #![tactic(auto)]
 
-ghost use Rattle.std.specs.Prelude.{◌≡◌, ◌+◌, ◌*◌, ◌≤◌, ◌<◌, length, take, drop};
+ghost use Rattle.std.specs.Prelude.{◌≡◌, ◌+◌, ◌*◌, ◌≤◌, ◌<◌, true, length, take, drop, MatchResult};
+ghost use Rattle.igvm_defs.specs.Refusals.{no_fault, is_fault, Told};
 ghost use Rattle.sheet.specs.Head.{limits, head_of, row_count, layout_ok, within_limits, start_fault, revision_of, page_size_fault};
 ghost use Rattle.sheet.specs.Table.{row_kind, row_length};
 
+mod readable_sheet;
+
 use igvm_defs::{Arch, Fault, IgvmRevision};
+pub use readable_sheet::ReadableSheet;
 
 // The head's numbers as they stand in the sheet.
 #[repr(C)]
@@ -35,6 +39,7 @@ impl SheetHead {
 
     pub const SHEET_BYTES: usize = 67108864;
 
+    #[tactic(auto, unfolding(crate::specs::Head::head_of))]
     pub fn new(s: &[u8]) -> SheetHead
         requires { 16 ≤ length s.now }
         ensures { result ≡ head_of s.now }
@@ -57,6 +62,7 @@ impl SheetHead {
         (self.platforms as usize) + (self.initializations as usize) + (self.directives as usize)
     }
 
+    #[tactic(auto, unfolding(crate::specs::Head::layout_ok))]
     pub fn layout_ok(self) -> bool
         ensures { result ≡ layout_ok self }
     {
@@ -67,6 +73,7 @@ impl SheetHead {
             & (!(self.revision == 1) | (self.arch == 0) & (self.page_size == 0))
     }
 
+    #[tactic(auto, unfolding(crate::specs::Head::limits, crate::specs::Head::within_limits))]
     pub fn within_limits(self, n: usize) -> bool
         ensures { result ≡ within_limits limits self n }
     {
@@ -76,6 +83,7 @@ impl SheetHead {
             & (n <= SheetHead::SHEET_BYTES)
     }
 
+    #[tactic(auto, unfolding(crate::specs::Head::revision_of))]
     pub fn revision(self) -> IgvmRevision
         ensures { result ≡ revision_of self }
     {
@@ -95,31 +103,26 @@ impl SheetHead {
         }
     }
 
-    pub fn page_size_fault(self) -> Fault
-        ensures { result ≡ page_size_fault self }
+    pub fn page_size_fault(self) -> Result<(), Fault>
+        ensures { Told result (page_size_fault self) }
     {
         let size = self.revision().page_size();
-        igvm_defs::refuse(size != SheetHead::PAGE_SIZE, 7, size, Fault::NONE)
+        igvm_defs::refuse_if(size != SheetHead::PAGE_SIZE, 7, size)
     }
 }
 
-// 1 (under 16 bytes), 2, 3 or 1 (the table ends early).
-pub fn start_fault(s: &[u8]) -> Fault
-    ensures { result ≡ start_fault limits s.now }
+// The head, or 1 (under 16 bytes), 2, 3 or 1 (the table ends early).
+#[tactic(auto, unfolding(igvm_defs::specs::Refusals::is_fault, crate::specs::Head::start_fault))]
+pub fn read_head(s: &[u8]) -> Result<SheetHead, Fault>
+    ensures { MatchResult result (λ h. (start_fault limits s.now ≡ no_fault) × (h ≡ head_of s.now)) (λ f. (f ≡ start_fault limits s.now) × (is_fault f ≡ true)) }
 {
     let n = s.len();
-    if n < 16 {
-        return Fault {
-            number: 1,
-            detail: 0,
-        };
-    }
+    igvm_defs::refuse_if(n < 16, 1, 0)?;
     let h = SheetHead::new(s);
-    let short = n < 16 + 8 * h.rows();
-    Fault::NONE
-        .or(2, 0, !h.layout_ok())
-        .or(3, 0, !h.within_limits(n))
-        .or(1, 0, short)
+    igvm_defs::refuse_if(!h.layout_ok(), 2, 0)?;
+    igvm_defs::refuse_if(!h.within_limits(n), 3, 0)?;
+    igvm_defs::refuse_if(n < 16 + 8 * h.rows(), 1, 0)?;
+    Ok(h)
 }
 
 // ---- rows
@@ -131,6 +134,7 @@ pub struct Cursor {
     pub at: usize,
 }
 
+#[tactic(auto, unfolding(crate::specs::Table::row_kind))]
 pub fn kind_at(s: &[u8], row: usize) -> u32
     requires { 24 + 8 * row ≤ length s.now }
     ensures { result ≡ row_kind s.now row }
@@ -138,6 +142,7 @@ pub fn kind_at(s: &[u8], row: usize) -> u32
     le::u32_at(s, 16 + 8 * row)
 }
 
+#[tactic(auto, unfolding(crate::specs::Table::row_length))]
 pub fn length_at(s: &[u8], row: usize) -> usize
     requires { 24 + 8 * row ≤ length s.now }
     ensures { (result ≡ row_length s.now row) × (result < 4294967296) }

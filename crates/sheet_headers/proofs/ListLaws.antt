@@ -1,6 +1,6 @@
 -- Row i of a list of a readable sheet, and a pass over the n rows of a list, which follow `first` others.
-use Rattle.rows.{proofs.Kit.{◌≡◌, refl, sym, ◌∙◌, true, false, false≢true, List, ℕ, ◌+◌, ◌≤◌, ◌<◌, add-zero, add_assoc, arith}, specs.Below.any_below, proofs.BelowLaws.any_more}
-use Rattle.igvm_defs.{specs.declared.Fault.Fault, specs.Kinds.{kind_of, platform_list, initialization_list, directive_list}, specs.Refusals.{no_refusal, is_fault, is_refusal, in_row, first_fault}, proofs.RefusalLaws.{row_refusal_lem, fault_stop, fault_end}}
+use Rattle.rows.{proofs.Kit.{◌≡◌, refl, true, false, List, ℕ, ◌+◌, ◌≤◌, ◌<◌, add-zero, add_assoc, arith}, specs.Below.any_below, proofs.BelowLaws.any_more}
+use Rattle.igvm_defs.{specs.declared.Fault.Fault, specs.Kinds.{kind_of, platform_list, initialization_list, directive_list}, specs.Refusals.{no_refusal, is_fault, in_row, first_fault}, proofs.RefusalLaws.{fault_stop, fault_end}}
 use Rattle.sheet.{specs.declared.Cursor.Cursor, specs.Head.{limits, head_of, first_directive}, specs.Table.{row_kind, body_of}, specs.Read.Readable, specs.Walk.{cursor_at, AtRow}, proofs.Readable.{at_row, platform_row, initialization_row, directive_row}}
 use Rattle.platform_header.specs.Platforms.{platform_of}
 use Rattle.initialization_header.specs.Initializations.{initialization_of}
@@ -61,7 +61,3 @@ module _ (s : List ℕ) (first n : ℕ) (f : ℕ → Fault) where
 
   pub rows_end : (c : Cursor) (i : ℕ) → RowsReached s first n f c i → n ≤ i → (i ≡ n) × (first_fault first n f ≡ no_refusal)
   rows_end c i r l = let b = r.below in let e : i ≡ n = omega arith in (e, fault_end first n f (rw e at r.passed))
-
--- a pass that stopped has a refusal
-pub stopped : {A : Type 0} (row : ℕ) (f : Fault) → is_fault f ≡ true → is_refusal (in_row row f) ≡ false → A
-stopped row f t e = absurd (false≢true (sym e ∙ row_refusal_lem row f ∙ t))

@@ -1,24 +1,22 @@
-// The sheet reader keeps the sheet's bytes with the row reached and where that row's body starts; it hands back the body's part of the sheet.
-// The functions over it are thin: what they answer is computed by functions on a slice and numbers.
+// The sheet reader keeps the sheet's bytes with a cursor: the row reached and where that row's body starts. It hands back the body's part of the sheet.
+// Its methods are thin: what they answer is computed by functions on a slice and a cursor.
 #![tactic(auto)]
 
 ghost use Rattle.std.specs.Prelude.{◌≡◌, ◌+◌, ◌*◌, ◌≤◌, ◌<◌, length, take, drop};
-ghost use Rattle.sheet.specs.Head.{limits, head_of, row_count};
+ghost use Rattle.sheet.specs.Head.{head_of, row_count};
 ghost use Rattle.sheet.specs.Table.{row_kind, body_of};
-ghost use Rattle.sheet.specs.Read.{Readable};
 ghost use Rattle.sheet.specs.Walk.{cursor_at, AtRow};
-ghost use Rattle.sheet_reader.specs.Reading.{row_of, read_at, cursor_after, reader_at, advanced, read_row};
+ghost use Rattle.sheet_reader.specs.Reading.{row_of, read_at, cursor_after, reader_at, advanced};
 
-use sheet::{Cursor, SheetHead};
+use sheet::{Cursor, ReadableSheet};
 
 #[derive(Clone, Copy)]
 pub struct SheetReader<'a> {
     pub bytes: &'a [u8],
-    pub row: usize,
-    pub at: usize,
+    pub cursor: Cursor,
 }
 
-// A row of the table of contents: kind and body length. Both 0 where there is no row; 0 is no kind.
+// A row of the table of contents: kind and body length.
 #[derive(Clone, Copy)]
 pub struct SheetRow {
     pub kind: u32,
@@ -28,18 +26,19 @@ pub struct SheetRow {
 // ---- at a row that the table has, whose body starts in the sheet
 
 // The row; none where its body ends behind the sheet.
-pub fn row_from(s: &[u8], c: Cursor) -> SheetRow
+#[tactic(auto, unfolding(crate::specs::Reading::read_at))]
+pub fn row_from(s: &[u8], c: Cursor) -> Option<SheetRow>
     requires { (24 + 8 * c.row ≤ length s.now) × (c.at ≤ length s.now) }
     ensures { result ≡ read_at s.now c.row c.at }
 {
     let length = sheet::length_at(s, c.row);
     if s.len() - c.at < length {
-        return SheetRow { kind: 0, length: 0 };
+        return None;
     }
-    SheetRow {
+    Some(SheetRow {
         kind: sheet::kind_at(s, c.row),
         length,
-    }
+    })
 }
 
 // Its body's part of the sheet.
@@ -61,103 +60,73 @@ pub fn after(c: Cursor, r: SheetRow) -> Cursor
     }
 }
 
-// ---- at a row of a sheet, from 0, and where its body starts: nothing is tested
+// ---- at a cursor that stands at a row of a sheet: nothing is tested
 
-pub fn row_at(s: &[u8], row: usize, at: usize) -> SheetRow
-    requires { AtRow s.now (record { row = row; at = at }) }
-    ensures { result ≡ row_of s.now row }
+pub fn row_at(s: &[u8], c: Cursor) -> SheetRow
+    requires { AtRow s.now c }
+    ensures { result ≡ row_of s.now c.row }
 {
     SheetRow {
-        kind: sheet::kind_at(s, row),
-        length: sheet::length_at(s, row),
+        kind: sheet::kind_at(s, c.row),
+        length: sheet::length_at(s, c.row),
     }
 }
 
 // The body's part of the sheet.
-pub fn body_at(s: &[u8], row: usize, at: usize) -> &[u8]
-    requires { AtRow s.now (record { row = row; at = at }) }
-    ensures { result.now ≡ body_of s.now row }
+#[tactic(auto, unfolding(sheet::specs::Table::body_of))]
+pub fn body_at(s: &[u8], c: Cursor) -> &[u8]
+    requires { AtRow s.now c }
+    ensures { result.now ≡ body_of s.now c.row }
 {
-    body_from(s, Cursor { row, at }, row_at(s, row, at))
+    body_from(s, c, row_at(s, c))
 }
 
-// The row after it and where that one's body starts.
-pub fn place_after(s: &[u8], row: usize, at: usize) -> Cursor
-    requires { AtRow s.now (record { row = row; at = at }) }
-    ensures { result ≡ cursor_at s.now (row + 1) }
+// The cursor at the row after it.
+pub fn place_after(s: &[u8], c: Cursor) -> Cursor
+    requires { AtRow s.now c }
+    ensures { result ≡ cursor_at s.now (c.row + 1) }
 {
-    after(Cursor { row, at }, row_at(s, row, at))
+    after(c, row_at(s, c))
 }
 
 // ---- the reader
 
-pub fn open<'a>(bytes: &'a [u8], row: usize, at: usize) -> SheetReader<'a>
-    ensures { result ≡ reader_at bytes.entry row at }
-{
-    SheetReader { bytes, row, at }
-}
+impl<'a> SheetReader<'a> {
+    pub fn open(bytes: &'a [u8], cursor: Cursor) -> SheetReader<'a>
+        ensures { result ≡ reader_at bytes.entry cursor }
+    {
+        SheetReader { bytes, cursor }
+    }
 
-// The row that the reader stands at.
-pub fn row<'a>(r: SheetReader<'a>) -> SheetRow
-    requires { AtRow r.bytes.now (record { row = r.row; at = r.at }) }
-    ensures { result ≡ row_of r.entry.bytes.now r.entry.row }
-{
-    row_at(r.bytes, r.row, r.at)
-}
+    // The row that the reader stands at.
+    pub fn row(self) -> SheetRow
+        requires { AtRow self.bytes.now self.cursor }
+        ensures { result ≡ row_of self.entry.bytes.now self.entry.cursor.row }
+    {
+        row_at(self.bytes, self.cursor)
+    }
 
-// Its body's part of the sheet.
-pub fn body<'a>(r: SheetReader<'a>) -> &'a [u8]
-    requires { AtRow r.bytes.now (record { row = r.row; at = r.at }) }
-    ensures { result.now ≡ body_of r.entry.bytes.now r.entry.row }
-{
-    body_at(r.bytes, r.row, r.at)
-}
+    // Its body's part of the sheet.
+    pub fn body(self) -> &'a [u8]
+        requires { AtRow self.bytes.now self.cursor }
+        ensures { result.now ≡ body_of self.entry.bytes.now self.entry.cursor.row }
+    {
+        body_at(self.bytes, self.cursor)
+    }
 
-// The reader at the row after it.
-pub fn next<'a>(r: SheetReader<'a>) -> SheetReader<'a>
-    requires { AtRow r.bytes.now (record { row = r.row; at = r.at }) }
-    ensures { result ≡ advanced r.entry }
-{
-    let p = place_after(r.bytes, r.row, r.at);
-    SheetReader {
-        bytes: r.bytes,
-        row: p.row,
-        at: p.at,
+    // The reader at the row after it.
+    pub fn next(self) -> SheetReader<'a>
+        requires { AtRow self.bytes.now self.cursor }
+        ensures { result ≡ advanced self.entry }
+    {
+        SheetReader {
+            bytes: self.bytes,
+            cursor: place_after(self.bytes, self.cursor),
+        }
     }
 }
 
-// ---- with plain parameters: whoever calls these has no reader to prove
-
-// A row, the row after it and where that one's body starts.
-#[derive(Clone, Copy)]
-pub struct RowRead {
-    pub what: SheetRow,
-    pub row: usize,
-    pub at: usize,
-}
-
-pub fn read_row(s: &[u8], k: usize, at: usize) -> RowRead
-    requires { AtRow s.now (record { row = k; at = at }) }
-    ensures { result ≡ read_row s.now k }
-{
-    let r = open(s, k, at);
-    let what = row(r);
-    let q = next(r);
-    RowRead {
-        what,
-        row: q.row,
-        at: q.at,
-    }
-}
-
-pub fn body_of<'a>(s: &'a [u8], k: usize, at: usize) -> &'a [u8]
-    requires { AtRow s.now (record { row = k; at = at }) }
-    ensures { result.now ≡ body_of s.now k }
-{
-    body(open(s, k, at))
-}
-
-// ---- at a cursor that stands at a row of a sheet
+// ---- with no reader: whoever calls these has none to prove
 
 #[derive(Clone, Copy)]
 pub struct CursorRow {
@@ -170,13 +139,10 @@ pub fn cursor_row(s: &[u8], c: Cursor) -> CursorRow
     requires { AtRow s.now c }
     ensures { (result.kind ≡ row_kind s.now c.row) × (result.next ≡ cursor_at s.now (c.row + 1)) }
 {
-    let r = read_row(s, c.row, c.at);
+    let r = SheetReader::open(s, c);
     CursorRow {
-        kind: r.what.kind,
-        next: Cursor {
-            row: r.row,
-            at: r.at,
-        },
+        kind: r.row().kind,
+        next: r.next().cursor,
     }
 }
 
@@ -185,20 +151,17 @@ pub fn cursor_body(s: &[u8], c: Cursor) -> &[u8]
     requires { AtRow s.now c }
     ensures { result.now ≡ body_of s.now c.row }
 {
-    body_of(s, c.row, c.at)
+    SheetReader::open(s, c).body()
 }
 
 // The cursor at row k of a readable sheet, or behind its last row.
-pub fn cursor_at(s: &[u8], k: usize) -> Cursor
-    requires { Readable limits s.now × (k ≤ row_count (head_of s.now)) }
-    ensures { result ≡ cursor_at s.now k }
+pub fn cursor_at(s: &ReadableSheet<'_>, k: usize) -> Cursor
+    requires { k ≤ row_count (head_of s.now.bytes.now) }
+    ensures { result ≡ cursor_at s.now.bytes.now k }
 {
-    let h = SheetHead::new(s);
-    let mut c = Cursor::new(h.rows());
-    let mut i = 0;
-    while i < k {
-        c = cursor_row(s, c).next;
-        i += 1;
+    let mut c = Cursor::new(s.head.rows());
+    for i in 0..k {
+        c = cursor_row(s.bytes, c).next;
     }
     c
 }

@@ -2,19 +2,99 @@
 // (codes 4 and 5: a region's bytes, code 11: those of an index).
 #![tactic(auto)]
 
-ghost use Rattle.std.specs.Prelude.{◌≡◌, ℕ, ◌+◌, ◌*◌, ◌%◌, ◌<◌, ◌≤◌, length, take, get_or, IfOk, OnErr};
+ghost use Rattle.std.specs.Prelude.{◌≡◌, ℕ, ◌+◌, ◌*◌, ◌%◌, ◌<◌, ◌≤◌, length, take, get_or, IfOk, IfSome, OnErr};
 
 use std::io::Write;
-use std::{fs, io};
+use std::{fmt, fs, io};
+
+// The call that a record makes, by its code in the file.
+#[derive(Clone, Copy, PartialEq, Eq)]
+pub enum CallKind {
+    Verdict,
+    Relocations,
+    RelocationBaseValid,
+    Contains,
+    RegionBaseValid,
+    RegionContains,
+    RelocationBaseRange,
+    StrictVerdict,
+    Report,
+    RegionOf,
+    RegionIndex,
+    RegionIn,
+}
+
+impl From<u8> for CallKind {
+    // A code of no call stands for `contains`.
+    fn from(code: u8) -> Self {
+        match code {
+            0 => CallKind::Verdict,
+            1 => CallKind::Relocations,
+            2 => CallKind::RelocationBaseValid,
+            4 => CallKind::RegionBaseValid,
+            5 => CallKind::RegionContains,
+            6 => CallKind::RelocationBaseRange,
+            7 => CallKind::StrictVerdict,
+            8 => CallKind::Report,
+            9 => CallKind::RegionOf,
+            10 => CallKind::RegionIndex,
+            11 => CallKind::RegionIn,
+            _ => CallKind::Contains,
+        }
+    }
+}
+
+impl CallKind {
+    // How many numbers are asked for: those of the answer, and one past them where the call takes `which`.
+    fn numbers(self) -> u32
+        ensures { result ≤ 11 }
+    {
+        match self {
+            CallKind::Verdict | CallKind::StrictVerdict => 7,
+            CallKind::Relocations => 11,
+            CallKind::RegionBaseValid | CallKind::RegionContains | CallKind::RegionIn => 1,
+            CallKind::Report => 8,
+            _ => 5,
+        }
+    }
+}
+
+// Who gave the answer that a call is held to.
+#[derive(Clone, Copy, PartialEq, Eq)]
+pub enum AnsweredBy {
+    Document01,
+    Rust,
+    RustAndDocument02,
+    Document02,
+}
+
+impl From<u8> for AnsweredBy {
+    fn from(code: u8) -> Self {
+        match code {
+            0 => AnsweredBy::Document01,
+            1 => AnsweredBy::Rust,
+            2 => AnsweredBy::RustAndDocument02,
+            _ => AnsweredBy::Document02,
+        }
+    }
+}
+
+impl fmt::Display for AnsweredBy {
+    fn fmt<W: fmt::Write>(&self, f: &mut fmt::Formatter<W>) -> fmt::Result {
+        f.write_str(match self {
+            AnsweredBy::Document01 => "01",
+            AnsweredBy::Rust => "rust",
+            AnsweredBy::RustAndDocument02 => "rust 02",
+            AnsweredBy::Document02 => "02",
+        })
+    }
+}
 
 // The head of a record.
 #[derive(Clone, Copy)]
 pub struct Call {
-    // 0 verdict, 1 relocations, 2 relocation_base_valid, 4 region_base_valid, 5 region_contains, 6 relocation_base_range, 7 strict_verdict, 8 report, 9 region_of,
-    // 10 region_index, 11 region_in, else contains
-    pub code: u8,
-    // 0 document 01, 1 the Rust, 2 the Rust and document 02, else document 02
-    pub answered: u8,
+    pub kind: CallKind,
+    pub answered: AnsweredBy,
     pub mask: u32,
     pub region: u64,
     // base, gpa or lowest base
@@ -23,14 +103,45 @@ pub struct Call {
     pub highest: u64,
     // how many bytes are lent
     pub lent: usize,
-    // how many numbers are asked for: those of the answer, and one past them where the call takes `which`
+    // how many numbers are asked for
     pub numbers: u32,
+}
+
+// The call and what it is asked with.
+impl fmt::Display for Call {
+    fn fmt<W: fmt::Write>(&self, f: &mut fmt::Formatter<W>) -> fmt::Result {
+        let mask = self.mask;
+        let region = self.region;
+        let value = self.value;
+        let lent = self.lent;
+        match self.kind {
+            CallKind::Verdict => f.write_str("verdict"),
+            CallKind::Relocations => write!(f, "relocations mask {mask} lent {lent}"),
+            CallKind::RelocationBaseValid => write!(
+                f,
+                "relocation_base_valid mask {mask} region {region} base {value}"
+            ),
+            CallKind::Contains => write!(f, "contains mask {mask} region {region} gpa {value}"),
+            CallKind::RegionBaseValid => write!(f, "region_base_valid base {value}"),
+            CallKind::RegionContains => write!(f, "region_contains gpa {value}"),
+            CallKind::RelocationBaseRange => write!(
+                f,
+                "relocation_base_range mask {mask} region {region} lowest {value} highest {}",
+                self.highest
+            ),
+            CallKind::StrictVerdict => f.write_str("strict_verdict"),
+            CallKind::Report => write!(f, "report lent {lent}"),
+            CallKind::RegionOf => write!(f, "region_of mask {mask} gpa {value}"),
+            CallKind::RegionIndex => write!(f, "region_index mask {mask} lent {lent}"),
+            CallKind::RegionIn => write!(f, "region_in gpa {value}"),
+        }
+    }
 }
 
 // Asks for no number and lends no byte.
 const NO_CALL: Call = Call {
-    code: 0,
-    answered: 0,
+    kind: CallKind::Verdict,
+    answered: AnsweredBy::Document01,
     mask: 0,
     region: 0,
     value: 0,
@@ -39,78 +150,12 @@ const NO_CALL: Call = Call {
     numbers: 0,
 };
 
-fn write_number<W: Write>(out: &mut W, words: &[u8], n: u64) -> io::Result<()> {
-    out.write_all(words)?;
-    write!(out, "{n}")
-}
-
 // What lent bytes hold before a call.
 pub fn fill(b: &mut [u8])
     ensures { (i : ℕ) → i < length b.old → get_or b.new i 0 ≡ (37 * i + 51) % 256 }
 {
-    let mut i = 0;
-    while i < b.len() {
+    for i in 0..b.len() {
         b[i] = ((i % 256 * 37 + 51) % 256) as u8;
-        i += 1;
-    }
-}
-
-fn write_region<W: Write>(out: &mut W, call: &[u8], c: Call, value: &[u8]) -> io::Result<()> {
-    out.write_all(call)?;
-    write_number(out, b" mask ", c.mask as u64)?;
-    write_number(out, b" region ", c.region)?;
-    write_number(out, value, c.value)
-}
-
-fn write_call<W: Write>(out: &mut W, c: Call) -> io::Result<()> {
-    let code = c.code;
-    match code {
-        0 => out.write_all(b"verdict"),
-        1 => {
-            write_number(out, b"relocations mask ", c.mask as u64)?;
-            write_number(out, b" lent ", c.lent as u64)
-        }
-        2 => write_region(out, b"relocation_base_valid", c, b" base "),
-        4 => write_number(out, b"region_base_valid base ", c.value),
-        5 => write_number(out, b"region_contains gpa ", c.value),
-        6 => {
-            write_region(out, b"relocation_base_range", c, b" lowest ")?;
-            write_number(out, b" highest ", c.highest)
-        }
-        7 => out.write_all(b"strict_verdict"),
-        8 => write_number(out, b"report lent ", c.lent as u64),
-        9 => {
-            write_number(out, b"region_of mask ", c.mask as u64)?;
-            write_number(out, b" gpa ", c.value)
-        }
-        10 => {
-            write_number(out, b"region_index mask ", c.mask as u64)?;
-            write_number(out, b" lent ", c.lent as u64)
-        }
-        11 => write_number(out, b"region_in gpa ", c.value),
-        _ => write_region(out, b"contains", c, b" gpa "),
-    }
-}
-
-fn write_answered<W: Write>(out: &mut W, c: Call) -> io::Result<()> {
-    let answered = c.answered;
-    match answered {
-        0 => out.write_all(b"01 "),
-        1 => out.write_all(b"rust "),
-        2 => out.write_all(b"rust 02 "),
-        _ => out.write_all(b"02 "),
-    }
-}
-
-fn numbers(code: u8) -> u32
-    ensures { result ≤ 11 }
-{
-    match code {
-        0 | 7 => 7,
-        1 => 11,
-        4 | 5 | 11 => 1,
-        8 => 8,
-        _ => 5,
     }
 }
 
@@ -118,16 +163,16 @@ fn call_of(one: &[u8]) -> Call
     requires { 40 ≤ length one.now }
     ensures { result.numbers ≤ 11 }
 {
-    let code = one[0];
+    let kind = CallKind::from(one[0]);
     Call {
-        code,
-        answered: one[1],
+        kind,
+        answered: AnsweredBy::from(one[1]),
         mask: le::u32_at(one, 4),
         region: le::u64_at(one, 8),
         value: le::u64_at(one, 16),
         highest: le::u64_at(one, 24),
         lent: le::u32_at(one, 32) as usize,
-        numbers: numbers(code),
+        numbers: kind.numbers(),
     }
 }
 
@@ -150,28 +195,28 @@ pub fn write_start<W: Write>(out: &mut W, one: &[u8], room: usize) -> io::Result
     requires { 40 ≤ length one.now }
 {
     let c = call_of(one);
-    write_answered(out, c)?;
-    write_call(out, c)?;
-    out.write_all(b":")?;
+    let answered = c.answered;
+    write!(out, "{answered} {c}:")?;
     if c.lent <= room {
         return Ok(());
     }
     out.write_all(b" lends more than 4224 bytes")
 }
 
-// The length of the record that starts at `at`; 0 if it is not whole.
-pub fn record_length(s: &[u8], at: usize) -> usize
+// The length of the record that starts at `at`, if it is whole.
+pub fn record_length(s: &[u8], at: usize) -> Option<usize>
     requires { at ≤ length s.now }
-    ensures { at + result ≤ length s.now }
+    ensures { IfSome result (λ n. (40 ≤ n) × (at + n ≤ length s.now)) }
 {
     let left = s.len() - at;
-    if 40 <= left {
-        let sheet = le::u32_at(s, at + 36) as usize;
-        if sheet <= left - 40 {
-            return 40 + sheet;
-        }
+    if left < 40 {
+        return None;
     }
-    0
+    let sheet = le::u32_at(s, at + 36) as usize;
+    if left - 40 < sheet {
+        return None;
+    }
+    Some(40 + sheet)
 }
 
 // Reads the file of that name: how many bytes it has, at most those of `space`. Where it can't be opened nothing is read.
@@ -179,8 +224,6 @@ pub fn read_file(rt: &HostRuntime, name: &str, space: &mut [u8]) -> io::Result<u
     ensures ok { IfOk result (λ n. (n ≤ length space.new) × (n ≡ length (take n space.new))) }
     ensures unread { OnErr result (space.new ≡ space.old) }
 {
-    match fs::open(rt, name) {
-        Ok(mut file) => Ok(input::read_full(&mut file, space)),
-        Err(e) => Err(e),
-    }
+    let mut file = fs::open(rt, name)?;
+    Ok(input::read_full(&mut file, space))
 }

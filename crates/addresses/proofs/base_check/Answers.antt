@@ -1,4 +1,3 @@
-use Rattle.rows.proofs.Kit.{rules}
 use Rattle.addresses.proofs.{BaseCheckLaws.in_order}
 use Rattle.addresses.proofs.base_check.Goals as goal
 

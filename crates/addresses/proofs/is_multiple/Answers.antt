@@ -1,5 +1,5 @@
 use native.Mathlib.Nat.{mod-zero}
-use Rattle.rows.proofs.Kit.{refl, sym, ◌∙◌, rules}
+use Rattle.rows.proofs.Kit.{refl, sym, ◌∙◌}
 use Rattle.addresses.specs.Addresses.{is_multiple}
 use Rattle.addresses.proofs.{PowerLaws.low_bits}
 use Rattle.addresses.proofs.is_multiple.Goals as goal

@@ -1,4 +1,4 @@
-use Rattle.rows.proofs.Kit.{sym, rules, arith}
+use Rattle.rows.proofs.Kit.{sym, arith}
 use Rattle.addresses.proofs.{PowerLaws.{zero_no_power, power_test}}
 use Rattle.addresses.proofs.is_power_of_two.Goals as goal
 

@@ -7,7 +7,7 @@ returns-then-count-ge-MOST c = λ f l h z. absurd (omega arith)
 
 pub returns : goal.returns
 returns c =
-    λ f l h z. holds_allocate h l _ _ _ (omega arith) (omega (arith, c.wide.ensures)) c.place_of-p.ensures.0 z
+    λ f l h z. holds_allocate h l _ _ _ (omega arith) (omega arith) c.place_of-p.ensures.0 z
 
 pub returns-then-node_at-ne0 : goal.returns-then-node_at-ne0
 returns-then-node_at-ne0 c =

@@ -1,13 +1,11 @@
-use Rattle.rows.proofs.Kit.{sym, rules}
+use Rattle.rows.proofs.Kit.{sym}
 use Rattle.base_ranges.proofs.{PartLaws.{below, none_below}}
 use Rattle.base_ranges.proofs.any_below.Goals as goal
 
 pub returns-then-lowest-minimum : goal.returns-then-lowest-minimum
 returns-then-lowest-minimum c =
-    let d = c in
-    let e = d in
-    let g = e.args in
-    rw (c.has_multiple.ensures, d.lower.ensures) (below g.alignment g.minimum g.lowest g.highest e.if-lowest-minimum.true)
+    let g = c.args in
+    rw (c.has_multiple.ensures, c.min.ensures) (below g.alignment g.minimum g.lowest g.highest c.if-lowest-minimum.true)
 
 pub returns : goal.returns
 returns c = let g = c.args in sym (none_below g.alignment g.minimum g.lowest g.highest c.if-lowest-minimum.false)

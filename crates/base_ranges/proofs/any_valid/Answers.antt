@@ -1,4 +1,4 @@
-use Rattle.rows.proofs.Kit.{sym, rules}
+use Rattle.rows.proofs.Kit.{sym}
 use Rattle.base_ranges.proofs.{PartLaws.{valid_part, none_valid}}
 use Rattle.base_ranges.proofs.any_valid.Goals as goal
 
@@ -7,8 +7,6 @@ returns-then-maximum-size c = let g = c.args in sym (none_valid g.alignment g.si
 
 pub returns : goal.returns
 returns c =
-    let d = c in
-    let e = d in
-    let g = e.args in
-    rw (c.has_multiple.ensures, d.lower.ensures, e.higher.ensures)
-    (valid_part g.alignment g.size g.minimum g.maximum g.lowest g.highest e.if-maximum-size.false)
+    let g = c.args in
+    rw (c.has_multiple.ensures, c.min.ensures, c.max.ensures)
+    (valid_part g.alignment g.size g.minimum g.maximum g.lowest g.highest c.if-maximum-size.false)

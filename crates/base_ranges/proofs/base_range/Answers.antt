@@ -1,4 +1,4 @@
-use Rattle.rows.proofs.Kit.{refl, rules}
+use Rattle.rows.proofs.Kit.{refl}
 use Rattle.base_ranges.proofs.{PartLaws.{none_there, in_order}}
 use Rattle.base_ranges.proofs.base_range.Goals as goal
 

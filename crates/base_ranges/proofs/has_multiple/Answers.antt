@@ -1,4 +1,3 @@
-use Rattle.rows.proofs.Kit.{rules}
 use Rattle.base_ranges.proofs.{PartLaws.there}
 use Rattle.base_ranges.proofs.has_multiple.Goals as goal
 

@@ -7,6 +7,6 @@ pub returns : goal.returns
 unfolding bit_lacking
 returns c contexts absent =
     let a = c.args in
-    let (held, e) = absent a.vtl c.requires.1 in
+    let (held, e) = absent a.vtl c.requires in
     let most : a.mask ≤ 4294967295 = search rules in
     rw e (absent_found a.mask _ most held)

@@ -1,19 +1,16 @@
-use Rattle.rows.{proofs.BelowLaws.any_more, specs.Below.any_below, proofs.Kit.{rules, arith, ◌-◌, ◌≤◌, ◌≡◌, sym, ◌∙◌, false}}
+use Rattle.rows.{proofs.BelowLaws.{any_more, none_any, first_any, first_at}, proofs.Kit.{arith, ◌≡◌, sym, ◌∙◌}}
 use Rattle.contexts.specs.Contexts.{lacks_bit}
 use Rattle.contexts.proofs.first_lacking.Goals as goal
 
 pub returns-then-lacks_bit : goal.returns-then-lacks_bit
-unfolding any_below
-returns-then-lacks_bit c = (search rules, c.loop-i.invariant.1, λ _. sym c.lacks_bit.ensures ∙ c.if-lacks_bit.true)
+returns-then-lacks_bit g c =
+    let p = lacks_bit c.args.held.now.mask c.args.held.now.vtl c.args.contexts.now in
+    sym (first_at c.args.held.now.count p c.loop-i.i (omega arith) ((none_any c.loop-i.i p).0 c.loop-i.invariant) (sym c.lacks_bit.ensures ∙ c.if-lacks_bit.true))
 
 pub loop-i-preserved : goal.loop-i-preserved
-unfolding any_below
-loop-i-preserved c =
-    (search rules, rw (any_more, c.loop-i.invariant.1, ← c.lacks_bit.ensures) c.if-lacks_bit.false)
+loop-i-preserved g c = rw (any_more, c.loop-i.invariant, ← c.lacks_bit.ensures) c.if-lacks_bit.false
 
 pub returns : goal.returns
-unfolding any_below
-returns c =
-    let n = c.args.n in
-    let e : c.loop-i.i ≡ n = omega arith in
-    (omega arith, rw e at c.loop-i.invariant.1, λ l. absurd (omega arith))
+returns g c =
+    let e : c.loop-i.i ≡ c.args.held.now.count = omega arith in
+    sym ((first_any c.args.held.now.count _).1 (rw e at c.loop-i.invariant))

@@ -1,9 +1,8 @@
-use Rattle.rows.proofs.Kit.{arith, rules}
 use Rattle.masks.proofs.MaskLaws.{or_nonzero}
 use Rattle.contexts.proofs.four_lack.Goals as goal
 
 pub returns : goal.returns
-returns c contexts absent =
+returns g c contexts absent =
     let first = c.bits_lacking-first in
     let second = c.bits_lacking-second in
     let third = c.bits_lacking-third in

@@ -1,11 +1,8 @@
-use Rattle.rows.proofs.Kit.{arith}
-use Rattle.directive_accept.proofs.{NamedLaws.{none_first, named_first}}
+use Rattle.rows.proofs.Kit.{arith, refl, rules}
+use Rattle.directive_accept.proofs.{NamedLaws.none_first}
 use Rattle.directive_accept.proofs.accept_many.Goals as goal
 
-pub past_named-requires : goal.past_named-requires
-past_named-requires c =
-    let q = c.requires.read_to in record {
-      s_in_bounds = c.requires.s_in_bounds;
-      n_in_bounds = c.requires.n_in_bounds;
-      named_accepted = named_first _ _ _ 8193 (omega arith) (omega arith) (none_first _ _ q.1 _ q.0 q.2);
-    }
+pub past_with_table-requires : goal.past_with_table-requires
+past_with_table-requires g c =
+    let q = c.requires.read_to in
+    (search rules, (c.requires.s_in_bounds, (c.requires.holds_tables, (none_first _ _ q.1 _ q.0 q.2, (refl, omega arith, omega arith)))))

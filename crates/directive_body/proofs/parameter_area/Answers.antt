@@ -1,9 +1,6 @@
-use Rattle.rows.{proofs.Kit.{false≢true, arith, leb-true, length, ◌≤◌, rules}, proofs.Bools.and_parts}
+use Rattle.rows.{proofs.Kit.{arith, leb-true, length, ◌≤◌}, proofs.Bools.and_parts}
 use Rattle.directive_body.proofs.{BodyLaws.area_in_order}
 use Rattle.directive_body.proofs.parameter_area.Goals as goal
-
-pub returns-then-n-lt12 : goal.returns-then-n-lt12
-returns-then-n-lt12 c = (λ arch e. absurd (false≢true e), λ e. absurd (false≢true e))
 
 pub returns : goal.returns
 returns c =

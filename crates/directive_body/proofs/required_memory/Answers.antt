@@ -1,9 +1,6 @@
-use Rattle.rows.{proofs.Kit.{false≢true, rules}, proofs.Bools.and_parts}
+use Rattle.rows.{proofs.Bools.and_parts}
 use Rattle.directive_body.proofs.{BodyLaws.memory_in_order}
 use Rattle.directive_body.proofs.required_memory.Goals as goal
-
-pub returns-then-b-ne17 : goal.returns-then-b-ne17
-returns-then-b-ne17 c = λ arch e. absurd (false≢true e)
 
 pub returns : goal.returns
 returns c = λ arch e.

@@ -1,71 +1,77 @@
-use Rattle.rows.proofs.Kit.{◌-◌, ◌+◌, ◌<◌, arith, ◌≡◌, sym, ap, ◌∙◌, rules}
-use Rattle.sheet.{specs.declared.SheetHead.SheetHead, specs.Head.{head_of, first_directive}, specs.Walk.cursor_at}
-use Rattle.sheet_headers.{specs.Headers.sheet_headers, proofs.HeaderLaws.sheet_counts}
+use Rattle.rows.proofs.Kit.{◌-◌, ◌+◌, ◌≤◌, arith, ◌≡◌, sym, ap, ◌∙◌, rules}
+use Rattle.sheet.{specs.declared.SheetHead.SheetHead, specs.Head.{first_directive}, specs.Walk.cursor_at}
+use Rattle.sheet_headers.{specs.Headers.sheet_headers, proofs.{HeaderLaws.sheet_counts, ListLaws.at_directive}}
+use Rattle.igvm_defs.{specs.Refusals.{fault, is_fault, is_refusal, in_row}, proofs.{RefusalLaws.row_refusal_lem, AnswerLaws.thrown}}
 use Rattle.directive_check.specs.Record.{DirectiveStepped}
-use Rattle.directive_pass.proofs.{DirectivePass.{DirectivesReached, directive_known, directive_small, directive_room, holds_tables, reached_header, directive_next, directives_stop, directives_end}}
+use Rattle.directive_pass.proofs.DirectivePass.{directive_next, directives_stop, directives_end, holds_tables, reached_header, value_met, fault_met}
+use Rattle.directive_pass.proofs.validate_directive_headers.Given.{Over}
 use Rattle.directive_pass.proofs.validate_directive_headers.Goals as goal
 use Rattle.directive_pass.proofs.validate_directive_headers.Goals.{After-validate_row-row}
 
--- what a turn says of its row: its fault, and the masks with its context
-stepped : (c : After-validate_row-row)
-    → let f = sheet_headers c.args.s.now in
-    DirectiveStepped f.arch f.initializations f.directives c.loop-i.i c.validate_row-row.result.fault c.validate_row-row.result.contexts
-stepped c =
-    let f = sheet_headers c.args.s.now in let r = c.loop-i.invariant in
-    rw (← r.arch)
-    (c.validate_row-row.ensures.directive_stepped f.initializations f.directives c.loop-i.i (reached_header r) c.bad_area-bad.ensures (holds_tables _ f.initializations r.regions) r.contexts)
-
 pub loop-i-init : goal.loop-i-init
-loop-i-init c =
-    let s = c.args.s.now in let e = c.requires.readable.1 in
+loop-i-init g c =
+    let s = c.args.s.now.bytes.now in let e = c.args.s.now.head_is in
     let from = c.requires.from_value in let low = from.1 in let high = from.2 in
-    let first : c.args.head.platforms + c.args.head.initializations ≡ first_directive s = ap (λ (h : SheetHead). h.platforms + h.initializations) e in
-    let rows : c.args.head.directives ≡ (head_of s).directives = ap (λ (h : SheetHead). h.directives) e in
-    let here : c.args.from.row - (c.args.head.platforms + c.args.head.initializations) ≡ c.args.from.row - first_directive s = omega arith in
+    let first : c.args.s.now.head.platforms + c.args.s.now.head.initializations ≡ first_directive s = ap (λ (h : SheetHead). h.platforms + h.initializations) e in
+    let here : c.args.from.row - (c.args.s.now.head.platforms + c.args.s.now.head.initializations) ≡ c.args.from.row - first_directive s = omega arith in
     record {
-      readable = c.requires.readable.0;
-      first_row = first;
-      rows = rows;
-      arch = rw (c.arch-arch.ensures, c.revision.ensures, e) (sheet_counts s).arch;
-      regions = c.requires.readable.2;
       reached = record { below = omega arith; at = from.0 ∙ ap (cursor_at s) (omega arith); passed = rw here c.requires.i_value.0 };
       contexts = rw here c.requires.i_value.1;
     }
 
 pub bad_area-bad-requires : goal.bad_area-bad-requires
-bad_area-bad-requires c =
-    let r = c.loop-i.invariant in
-    (r.readable, c.requires.readable.1, rw (← r.rows) c.loop-i-test.true, rw r.first_row at r.reached.at)
+bad_area-bad-requires g c =
+    (rw (← c.args.s.now.head_is) c.loop-i-test.true, c.loop-i.invariant.reached.at)
 
 pub validate_row-row-requires : goal.validate_row-row-requires
-validate_row-row-requires c = let (at, list) = directive_known c.loop-i.invariant c.loop-i-test.true in (at, list, directive_room c.loop-i.invariant)
+validate_row-row-requires g c =
+    let r = c.requires.readable in
+    let (at, list) = at_directive _ c.args.s.now.readable _ _ c.loop-i.invariant.reached.at (rw (← c.args.s.now.head_is) c.loop-i-test.true) in
+    let room : c.args.regions.now.count ≤ g.row.N = (let n = r.0.count in let m = r.1 in let k = (sheet_counts c.args.s.now.bytes.now).initializations in omega arith) in
+    (search rules, (at, list, room))
 
-pub overflow_add-first-then-is_fault : goal.overflow_add-first-then-is_fault
-overflow_add-first-then-is_fault c = let b = directive_small c.loop-i.invariant in let l = c.loop-i-test.true in omega arith
+-- what a turn says of its row: the masks with its context, or its fault
+stepped : {g : Over} (c : After-validate_row-row g)
+    → let f = sheet_headers c.args.s.now.bytes.now in
+    DirectiveStepped f.arch f.initializations f.directives c.loop-i.i-counter c.validate_row-row.result.contexts
+stepped c =
+    let f = sheet_headers c.args.s.now.bytes.now in
+    let r = c.loop-i.invariant in
+    let arch : c.arch-arch.result ≡ f.arch = rw (c.arch-arch.ensures, c.revision.ensures, c.args.s.now.head_is) (sheet_counts c.args.s.now.bytes.now).arch in
+    rw (← arch)
+    (c.validate_row-row.ensures.directive_stepped f.initializations f.directives c.loop-i.i-counter (reached_header r) c.bad_area-bad.ensures (holds_tables _ f.initializations c.requires.readable.0)
+    r.contexts)
 
-pub overflow_add-first-then-is_fault-2 : goal.overflow_add-first-then-is_fault-2
-overflow_add-first-then-is_fault-2 c = let b = directive_small c.loop-i.invariant in let l = c.loop-i-test.true in omega arith
-
-pub overflow_add-i : goal.overflow_add-i
-overflow_add-i c = let b = directive_small c.loop-i.invariant in let l = c.loop-i-test.true in omega arith
-
-pub loop-i-smaller : goal.loop-i-smaller
-loop-i-smaller c = let l = c.loop-i-test.true in omega arith
-
-pub no_matching_vp_context-requires : goal.no_matching_vp_context-requires
-no_matching_vp_context-requires c = directive_room c.loop-i.invariant
-
-pub returns : goal.returns
-returns c =
-    rw (c.in_row-refusal.ensures, c.refuse.ensures, c.no_matching_vp_context.ensures)
-    (directives_end c.loop-i.invariant c.loop-i-test.false)
-
-pub returns-then-is_fault : goal.returns-then-is_fault
-returns-then-is_fault c =
-    let e = sym c.is_fault.ensures ∙ c.if-is_fault.true in
-    rw c.in_row.ensures (directives_stop c.loop-i.invariant _ _ c.loop-i-test.true (stepped (goal.at.returns-then-is_fault c).After-validate_row-row) e)
+pub returns-in_err-contexts : goal.returns-in_err-contexts
+returns-in_err-contexts g c =
+    let (f, is, e) = fault_met c.validate_row-row.result.contexts (first_directive c.args.s.now.bytes.now + c.loop-i.i-counter + 1) c.in_err-contexts.field-0.0 c.in_err-contexts.ensures.cases (λ x p. cc) (λ f q. let e = c.args.s.now.head_is in cc) in
+    let (told, t) = directives_stop c.loop-i.invariant f (rw (← c.args.s.now.head_is) c.loop-i-test.true) (rw is at (stepped (goal.at.returns-in_err-contexts g c).After-validate_row-row)) in
+    thrown c.from_residual.result _ _ _ c.from_residual.ensures.1 (e ∙ told, ap is_refusal (sym told) ∙ t)
 
 pub loop-i-preserved : goal.loop-i-preserved
-loop-i-preserved c =
-    let e = sym c.is_fault.ensures ∙ c.if-is_fault.false in
-    directive_next c.loop-i.invariant _ _ _ c.loop-i-test.true (stepped (goal.at.loop-i-preserved c).After-validate_row-row) e c.validate_row-row.ensures.next_value
+loop-i-preserved g c =
+    let is = value_met c.validate_row-row.result.contexts c.in_ok-contexts.contexts c.in_ok-contexts.ensures.cases (λ z p. cc) (λ f q. q) in
+    let (e, holds) = rw is at (stepped (goal.at.loop-i-preserved g c).After-validate_row-row) in
+    directive_next c.loop-i.invariant _ _ (rw (← c.args.s.now.head_is) c.loop-i-test.true) e holds c.validate_row-row.ensures.next_value
+
+pub no_matching_vp_context-lacking-requires : goal.no_matching_vp_context-lacking-requires
+no_matching_vp_context-lacking-requires g c =
+    let r = c.requires.readable in
+    let n = r.0.count in let m = r.1 in let k = (sheet_counts c.args.s.now.bytes.now).initializations in omega arith
+
+pub returns-in_err-map_err : goal.returns-in_err-map_err
+unfolding is_fault
+returns-in_err-map_err g c =
+    let (f, is, e) = fault_met c.refuse_if.result 0 c.in_err-map_err.field-0.0 c.in_err-map_err.ensures.cases (λ x p. cc) (λ f q. cc) in
+    let (t, q) = rw is at c.refuse_if.ensures in
+    let (holds, told) = directives_end c.loop-i.invariant c.args.regions.now c.requires.readable.0 (rw (← c.args.s.now.head_is) c.loop-i-test.false) in
+    thrown c.from_residual-in_err-map_err.result _ _ _ c.from_residual-in_err-map_err.ensures.1
+    (rw (told, ← c.no_matching_vp_context-lacking.ensures, t) (e ∙ ap (in_row 0) q, row_refusal_lem 0 (fault 34 0)))
+
+pub returns : goal.returns
+unfolding in_row is_fault
+returns g c =
+    let is = value_met c.refuse_if.result c.in_ok-map_err.field-0 c.in_ok-map_err.ensures.cases (λ z p. cc) (λ f q. q) in
+    let t = rw is at c.refuse_if.ensures in
+    let (holds, told) = directives_end c.loop-i.invariant c.args.regions.now c.requires.readable.0 (rw (← c.args.s.now.head_is) c.loop-i-test.false) in
+    (rw (told, ← c.no_matching_vp_context-lacking.ensures, t), holds)

@@ -1,37 +1,69 @@
-use Rattle.rows.proofs.Kit.{sym, ◌∙◌, arith, rules}
-use Rattle.sheet_headers.proofs.ListLaws.{at_directive, directive_header}
-use Rattle.area_table.proofs.AreaTableLaws.{holds_same}
+use Rattle.rows.{proofs.Kit.{sym, ap, true, ◌≡◌, ◌∙◌, arith, rules}, specs.Rows.more}
+use Rattle.std.specs.Prelude.{MatchResult}
+use Rattle.igvm_defs.specs.declared.Fault.{Fault}
+use Rattle.igvm_defs.specs.Refusals.{no_fault, is_fault}
+use Rattle.sheet_headers.{specs.Headers.sheet_headers, proofs.{ListLaws.{at_directive, directive_header}}}
+use Rattle.rules.specs.Report.{directive_report}
+use Rattle.area_table.{specs.Table.Knows, proofs.AreaTableLaws.{holds_same}}
+use Rattle.directive_check.specs.Record.{HoldsContexts}
 use Rattle.directive_row.specs.Row.{state_of}
-use Rattle.directive_report.proofs.AreaLaws.{state_told}
+use Rattle.directive_pass.proofs.DirectivePass.{holds_tables}
 use Rattle.directive_report.specs.Reported.{kept_to}
-use Rattle.directive_report.proofs.{DirectiveReport.{bad_row, row_told, areas_told}}
+use Rattle.directive_report.proofs.{DirectiveReport.{held_room, bad_row, row_told, areas_told, kept_with, kept_without}}
+use Rattle.directive_report.proofs.report_row.Given.{Over}
 use Rattle.directive_report.proofs.report_row.Goals as goal
+use Rattle.directive_report.proofs.report_row.Goals.{After-validate_row-row}
 
-pub state_of-state-requires : goal.state_of-state-requires
-state_of-state-requires c =
-    let (ok, head, arch, at, l, W) = c.requires.readable in
-    record { readable = (ok, head, omega arith, W); holds_areas = c.requires.holds_contexts.1 }
+pub named_row-name-requires : goal.named_row-name-requires
+named_row-name-requires g c = let (arch, at, l, W) = c.requires.readable in (l, at)
+
+pub state_named-state-requires : goal.state_named-state-requires
+state_named-state-requires g c =
+    let (arch, at, l, W) = c.requires.readable in
+    (search rules, ((omega arith, W), c.requires.known.1))
 
 pub validate_row-row-requires : goal.validate_row-row-requires
-validate_row-row-requires c =
-    let (ok, head, arch, at, l, W) = c.requires.readable in let (row, list) = at_directive _ ok _ _ at l in
-    (row, list, c.requires.held_le_initialization_rows.0)
+validate_row-row-requires g c =
+    let (arch, at, l, W) = c.requires.readable in
+    let (row, list) = at_directive _ c.args.s.now.readable _ _ at l in
+    (search rules, (row, list, held_room _ _ c.args.s.now.readable c.requires.regions))
 
-pub keep_area-requires : goal.keep_area-requires
-keep_area-requires c = (c.requires.holds_contexts.1.tree, λ e. state_told _ _ (sym c.state_of-state.ensures ∙ e))
-
-pub returns : goal.returns
-returns c =
-    let (ok, head, arch, at, l, W) = c.requires.readable in let s = c.args.s.now in let i = c.args.i in
-    let (how, area) = c.naming_at-name.ensures in
+-- what is told of the row after the kept rows
+answered : {g : Over} (c : After-validate_row-row g)
+    → let s = c.args.s.now.bytes.now in
+    MatchResult c.validate_row-row.result.contexts (λ next. (directive_report (sheet_headers s) c.args.i ≡ no_fault) × HoldsContexts next (more (kept_to s c.args.i) ((sheet_headers s).directives.row c.args.i)))
+    (λ f. (f ≡ directive_report (sheet_headers s) c.args.i) × (is_fault f ≡ true))
+answered c =
+    let (arch, at, l, W) = c.requires.readable in
+    let s = c.args.s.now.bytes.now in
+    let i = c.args.i in
     let row = directive_header s c.args.c.row i (rw at) in
-    let state = rw area at c.state_of-state.ensures in
-    let bad = c.bad_in.ensures ∙ bad_row s i _ _ _ row how state in
-    let (told, contexts) = row_told s i c.args.arch _ _ _ _ _ arch row bad c.requires.holds_contexts.0 (λ xs j e b k. c.validate_row-row.ensures.directive_stepped _ xs j e b c.requires.held_le_initialization_rows.1 k) in
+    let bad = c.bad_in.ensures ∙ bad_row s i _ _ _ row c.named_row-name.ensures.named c.state_named-state.ensures in
+    rw row at (row_told s i c.args.arch _ _ _ _ arch row bad c.requires.known.0
+    (λ xs j e b k. c.validate_row-row.ensures.directive_stepped _ xs j e b (holds_tables _ _ c.requires.regions) k))
+
+pub returns-in-Ok : goal.returns-in-Ok
+returns-in-Ok g c =
+    let at = c.requires.readable.1 in
+    let s = c.args.s.now.bytes.now in
+    let i = c.args.i in
+    let (e, holds) = rw c.in-Ok.is at (answered (goal.at.returns-in-Ok g c).After-validate_row-row) in
     record {
-      told = told;
-      contexts_kept = rw (c.kept_contexts-kept.ensures, c.is_fault-wrong.ensures) contexts;
-      areas_kept = holds_same (rw c.is_fault-wrong.ensures at (c.keep_area.ensures (state_of (kept_to s i)) (sym c.state_of-state.ensures) c.requires.holds_contexts.1))
-          (areas_told s i _ _ _ _ told how area c.state_of-state.ensures);
+      told = ap (λ (f : Fault). f.number) (sym e);
+      contexts_kept = kept_with s i (HoldsContexts c.in-Ok.kept) e holds;
+      areas_kept = holds_same (c.keep_area.ensures (state_of (kept_to s i)) (sym c.state_named-state.ensures) c.requires.known.1) (areas_told s i _ e c.named_row-name.ensures.named);
+      after = rw (c.validate_row-row.ensures.next_value, at);
+    }
+
+pub returns-in-Err : goal.returns-in-Err
+returns-in-Err g c =
+    let at = c.requires.readable.1 in
+    let s = c.args.s.now.bytes.now in
+    let i = c.args.i in
+    let told = rw c.in-Err.is at (answered (goal.at.returns-in-Err g c).After-validate_row-row) in
+    record {
+      told = ap (λ (f : Fault). f.number) told.0;
+      contexts_kept = kept_without s i (HoldsContexts c.args.contexts) c.in-Err.fault told c.requires.known.0;
+      areas_kept = kept_without s i (λ rows. Knows c.args.areas.now (state_of rows)) c.in-Err.fault told c.requires.known.1;
       after = rw (c.validate_row-row.ensures.next_value, at);
     }

@@ -1,26 +1,31 @@
-use Rattle.rows.{proofs.Kit.{◌≡◌, ◌∙◌, rules}, specs.Rows.before}
-use Rattle.igvm_defs.specs.Refusals.{or_fault}
-use Rattle.rules.specs.Initializations.{validate_initialization, initialization_fault}
-use Rattle.by_start.proofs.OrderedLaws.{search_tells}
-use Rattle.initialization_check.specs.Record.{policy_fault}
-use Rattle.initialization_check.proofs.{FaultLaws.row_fault_lem}
+use Rattle.rows.proofs.Kit.{refl, sym}
+use Rattle.igvm_defs.{proofs.{RefusalLaws.no_fault_lem, AnswerLaws.thrown}}
+use Rattle.initialization_check.proofs.FaultLaws.{row_fault_lem}
 use Rattle.initialization_check.proofs.check.Goals as goal
 
-pub begin-from-requires : goal.begin-from-requires
-begin-from-requires c = let o = c.requires.2 in (search rules, search rules, o.order, o.last, o.near)
+pub returns-in_err-validate-clause-checked : goal.returns-in_err-validate-clause-checked
+returns-in_err-validate-clause-checked g c ps earlier hp held =
+    let a = c.args in let (f, t) = c.in_err-validate.ensures in
+    thrown c.from_residual.result _ _ _ c.from_residual.ensures.1 (rw (row_fault_lem a.arch ps a.regions.now earlier a.h _ held refl, t) (f, t))
 
-pub search-at-requires : goal.search-at-requires
-search-at-requires c = let o = c.requires.2 in record { n_in_bounds = (search rules, search rules, search rules, search rules); by_start = (o.order, c.begin-from.ensures _ o) }
+pub returns-in_err-policy_fault-clause-checked : goal.returns-in_err-policy_fault-clause-checked
+returns-in_err-policy_fault-clause-checked g c ps earlier hp held =
+    let a = c.args in let (f, t) = c.in_err-policy_fault.ensures ps hp in
+    thrown c.from_residual-in_err-policy_fault.result _ _ _ c.from_residual-in_err-policy_fault.ensures.1
+    (rw (row_fault_lem a.arch ps a.regions.now earlier a.h _ held refl, c.in_ok-validate.ensures, no_fault_lem, t) (f, t))
 
-pub returns : goal.returns
-returns c =
-    let new = c.region_of-new.result in
-    let ordered = c.requires.2 in record {
-      initialization_stepped = λ ps xs i hp e held.
-          record {
-            told = rw (← e) (c.row_fault-fault.ensures ps (before i xs) hp c.region_of-new.ensures (c.any_tables_share-shares.ensures ∙ held.tables_share_lem new.region)
-                (search_tells ordered.order c.search-at.ensures ∙ held.overlaps new.region));
-            region = rw (← e) c.region_of-new.ensures;
-          };
-      searched = (c.search-at.ensures, (c.begin-from.ensures _ ordered).0);
-    }
+pub returns-in_err-place-in-Some-clause-checked : goal.returns-in_err-place-in-Some-clause-checked
+returns-in_err-place-in-Some-clause-checked g c ps earlier hp held =
+    let a = c.args in let (f, t) = c.in_err-place-in-Some.ensures in
+    thrown c.from_residual-in_err-place-in-Some.result _ _ _ c.from_residual-in_err-place-in-Some.ensures.1
+    (rw (row_fault_lem a.arch ps a.regions.now earlier a.h _ held (sym c.in-Some.ensures), c.in_ok-validate.ensures, c.in_ok-policy_fault.ensures ps hp, no_fault_lem) (f, t))
+
+pub returns-in_ok-place-in-Some-clause-checked : goal.returns-in_ok-place-in-Some-clause-checked
+returns-in_ok-place-in-Some-clause-checked g c ps earlier hp held =
+    let a = c.args in let (f, is, _) = c.in_ok-place-in-Some.ensures in
+    (rw (row_fault_lem a.arch ps a.regions.now earlier a.h _ held (sym c.in-Some.ensures), c.in_ok-validate.ensures, c.in_ok-policy_fault.ensures ps hp, no_fault_lem) f, rw is (sym c.in-Some.ensures))
+
+pub returns-in-None-clause-checked : goal.returns-in-None-clause-checked
+returns-in-None-clause-checked g c ps earlier hp held =
+    let a = c.args in
+    (rw (row_fault_lem a.arch ps a.regions.now earlier a.h _ held (sym c.in-None.ensures), c.in_ok-validate.ensures, c.in_ok-policy_fault.ensures ps hp, no_fault_lem) refl, sym c.in-None.ensures)

@@ -1,4 +1,4 @@
-use Rattle.rows.proofs.Kit.{arith, rules}
+use Rattle.rows.proofs.Kit.{arith}
 use Rattle.masks.specs.Masks.{is_one_bit}
 use Rattle.masks.proofs.{MaskLaws.clears_one_bit}
 use lib.Count as Count

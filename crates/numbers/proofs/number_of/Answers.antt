@@ -1,11 +1,12 @@
-use Rattle.rows.proofs.Kit.{refl, sym, get_or-eq_default, arith, rules}
+use Rattle.rows.proofs.Kit.{arith}
+use Rattle.std.proofs.lemmas.{Grind.common_steps, Option.gets}
 use Rattle.answers.specs.Numbers.{number_of}
 use Rattle.numbers.proofs.number_of.Goals as goal
 
-pub returns-then-i-numbers : goal.returns-then-i-numbers
+pub returns-in-Some : goal.returns-in-Some
 unfolding number_of
-returns-then-i-numbers c = refl
+returns-in-Some c = grind (arith, common_steps, gets)
 
-pub returns : goal.returns
+pub returns-in-None : goal.returns-in-None
 unfolding number_of
-returns c = let a = c.args in sym (get_or-eq_default a.numbers.now 0 {n = a.which} (omega arith))
+returns-in-None c = grind (arith, common_steps, gets)

@@ -1,4 +1,3 @@
-use Rattle.rows.proofs.Kit.{rules}
 use Rattle.numbers.proofs.tell_verdict.Goals as goal
 
 pub returns : goal.returns

@@ -1,23 +1,14 @@
-use Rattle.rows.{proofs.Kit.{rules, arith, ◌≤◌, ◌-◌, ◌≡◌, refl, get_or}, specs.Below.{count_below, sum_below}, proofs.BelowLaws.count_more, proofs.Bools.{one_at_most, byte_count}}
-use Rattle.masks.specs.Masks.{matches}
+use Rattle.rows.{proofs.Kit.{◌≡◌, refl, arith}, specs.Below.sum_below, proofs.BelowLaws.count_more, proofs.Bools.{one_at_most, byte_count}}
 use Rattle.owner.proofs.count_of.Goals as goal
 
 pub loop-i-init : goal.loop-i-init
 unfolding sum_below
-loop-i-init c = (omega arith, refl, omega arith)
-
-pub overflow_add-count : goal.overflow_add-count
-unfolding sum_below
-overflow_add-count c = let m = one_at_most c.matches.result in let inv = c.loop-i.invariant in let p = c.requires.0 in omega arith
+loop-i-init g c = (refl, omega arith)
 
 pub loop-i-preserved : goal.loop-i-preserved
-unfolding sum_below
-loop-i-preserved c =
-    let inv = c.loop-i.invariant in let m = one_at_most c.matches.result in
-    (omega arith, rw (count_more, ← inv.1, ← c.matches.ensures, byte_count c.matches.result), omega arith)
+loop-i-preserved g c =
+    let most = one_at_most c.matches.result in
+    (rw (count_more, ← c.loop-i.invariant.0, ← c.matches.ensures, byte_count c.matches.result), omega arith)
 
 pub returns : goal.returns
-unfolding sum_below
-returns c =
-    let inv = c.loop-i.invariant in let e : c.loop-i.i ≡ c.args.n = omega arith in
-    (rw e at inv.1, omega arith)
+returns g c = let e : c.loop-i.i ≡ c.args.held.now.count = omega arith in (rw e at c.loop-i.invariant.0, omega arith)

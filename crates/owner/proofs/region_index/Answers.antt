@@ -1,21 +1,7 @@
-use Rattle.rows.proofs.Kit.{◌≡◌, ap, sym, ◌∙◌, true, false, rules}
-use Rattle.igvm_defs.{specs.Refusals.{is_fault, in_row}, proofs.RefusalLaws.row_refusal_lem}
-use Rattle.sheet.{specs.Head.{limits, start_fault}, proofs.Readable.start_says}
-use Rattle.validation.proofs.VerdictLaws.{verdict_start}
-use Rattle.owner.proofs.{CallLaws.index_verdict}
+use Rattle.answers.specs.Owner.{region_index_of}
+use Rattle.query.proofs.QueryLaws.{answered_is}
 use Rattle.owner.proofs.region_index.Goals as goal
 
-pub returns-then-is_fault : goal.returns-then-is_fault
-returns-then-is_fault c =
-    let s = c.args.s.now in
-    let t : is_fault (start_fault limits s) ≡ true = rw (← c.start_fault-start.ensures, ← c.is_fault.ensures) c.if-is_fault.true in
-    let e = c.in_row.ensures ∙ ap (in_row 0) c.start_fault-start.ensures in let (p0, p1) = index_verdict s c.args.given c.args.words.now _ (e ∙ sym (verdict_start limits s t)) (rw e (row_refusal_lem 0 (start_fault limits s) ∙ t)) in record { value = p0; words_after = p1 }
-
-pub new-head-requires : goal.new-head-requires
-new-head-requires c = let started : (is_fault (start_fault limits c.args.s.now) ≡ false) = (rw (← c.start_fault-start.ensures, ← c.is_fault.ensures) c.if-is_fault.false) in ((start_says limits _).0 started).head
-
-pub index_few-requires : goal.index_few-requires
-index_few-requires c = let started : (is_fault (start_fault limits c.args.s.now) ≡ false) = (rw (← c.start_fault-start.ensures, ← c.is_fault.ensures) c.if-is_fault.false) in (started, c.new-head.ensures, c.if-head-le4.true)
-
-pub index_many-requires : goal.index_many-requires
-index_many-requires c = let started : (is_fault (start_fault limits c.args.s.now) ≡ false) = (rw (← c.start_fault-start.ensures, ← c.is_fault.ensures) c.if-is_fault.false) in (started, c.new-head.ensures)
+pub returns-clause-value : goal.returns-clause-value
+unfolding region_index_of
+returns-clause-value c = answered_is _ _ _ _ c.index.ensures.value c.answered.ensures

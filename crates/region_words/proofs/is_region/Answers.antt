@@ -1,4 +1,4 @@
-use Rattle.rows.proofs.Kit.{sym, arith, rules, ne_eqb}
+use Rattle.rows.proofs.Kit.{sym, arith, ne_eqb}
 use Rattle.igvm_defs.specs.Kinds.{kind_of, spans}
 use Rattle.initialization_header.{specs.Initializations.initialization_of, proofs.InitializationLaws.kind_initialization}
 use Rattle.regions.proofs.HeaderLaws.{not_relocatable}

@@ -1,4 +1,4 @@
-use Rattle.rows.proofs.Kit.{◌≡◌, sym, ◌∙◌, add-zero, rules}
+use Rattle.rows.proofs.Kit.{◌≡◌, sym, ◌∙◌, add-zero}
 use Rattle.igvm_defs.specs.Kinds.{kind_of, spans}
 use Rattle.sheet.proofs.Readable.{codes_18}
 use Rattle.initialization_header.specs.Initializations.{initialization_of}

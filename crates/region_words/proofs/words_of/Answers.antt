@@ -1,4 +1,3 @@
-use Rattle.rows.proofs.Kit.{rules}
 use Rattle.region_words.proofs.{WordLaws.body_words}
 use Rattle.region_words.proofs.words_of.Goals as goal
 

@@ -1,15 +1,11 @@
-use Rattle.rows.{proofs.Kit.{◌≡◌, refl, ◌∙◌, ◌+◌, ◌-◌, ◌≤◌, add-zero, arith, rules}, specs.Rows.before, specs.Below.{sum_below, nth_below}}
+use Rattle.rows.{proofs.Kit.{◌≡◌, none, ◌+◌}, specs.Rows.before}
 use Rattle.sheet.{specs.Head.head_of, specs.Walk.cursor_at}
 use Rattle.rules.specs.Relocations.{region_count, region_at}
 use Rattle.answers.specs.Relocations.{sheet_initializations}
-use Rattle.regions.specs.Found.{found_region}
-use Rattle.regions.proofs.{FoundLaws.{regions_more, regions_few, region_more}, TurnLaws.{Turn, turn_at, all_rows_lem}}
 use Rattle.regions.proofs.region_at.Given as goal
 
--- `region_at` meets its contract: over the first i rows the region found is theirs.
-abbrev pub invariant-loop-i : goal.invariant-loop-i
-invariant-loop-i l = (l.i ≤ l.n) × (l.c ≡ cursor_at l.s ((head_of l.s).platforms + l.i)) × (l.seen ≡ region_count (before l.i (sheet_initializations l.s)) l.given)
-    × (l.found ≡ found_region (region_at (before l.i (sheet_initializations l.s)) l.given l.k))
-
-abbrev pub decreases-loop-i : goal.decreases-loop-i
-decreases-loop-i l = l.n - l.i
+-- the cursor stands behind the first rows, their regions are counted, and region k is none of them
+abbrev pub invariant-loop : goal.invariant-loop
+invariant-loop l =
+    let rows = before l.counter (sheet_initializations l.s.bytes.now) in
+    (l.c ≡ cursor_at l.s.bytes.now ((head_of l.s.bytes.now).platforms + l.counter)) × (l.seen ≡ region_count rows l.given) × (region_at rows l.given l.k ≡ none)

@@ -1,4 +1,4 @@
-use Rattle.rows.proofs.Kit.{ap, ◌∙◌, rules, not-false}
+use Rattle.rows.proofs.Kit.{ap, ◌∙◌}
 use Rattle.sheet.{specs.declared.SheetHead.SheetHead, specs.Head.{limits, row_count}, proofs.Readable.{readable_bounds, sheet_says}}
 use Rattle.report.proofs.report.Goals as goal
 

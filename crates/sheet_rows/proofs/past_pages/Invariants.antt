@@ -1,7 +1,5 @@
-use Rattle.rows.proofs.Kit.{◌≤◌, ◌-◌, arith, rules}
+use Rattle.rows.proofs.Kit.{◌≤◌, ◌-◌}
 use Rattle.sheet.specs.Walk.{ReadTo}
-use Rattle.sheet_reader.proofs.ReaderLaws.{Found, kind_found, read_after}
-use Rattle.sheet_rows.proofs.{RowLaws.page_reads}
 use Rattle.sheet_rows.proofs.past_pages.Given as goal
 
 abbrev pub invariant-loop-c : goal.invariant-loop-c

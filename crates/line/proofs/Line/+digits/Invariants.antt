@@ -1,4 +1,3 @@
--- The measure of `digits` is k.
 use Rattle.line.proofs.Line.+digits.Given as goal
 
 abbrev pub decreases-digits : goal.decreases-digits

@@ -1,14 +1,6 @@
-use Rattle.rows.{proofs.Kit.{◌≡◌, refl, ◌-◌, ◌≤◌, arith, rules, eqb, get_or}, specs.Below.any_below, proofs.BelowLaws.any_more}
+use Rattle.rows.proofs.Kit.{sym, eq-eqb}
+use Rattle.rows.proofs.BelowLaws.{any_below_lem}
 use Rattle.platform_check.proofs.Platforms.has_type.Goals as goal
 
-pub loop-i-init : goal.loop-i-init
-unfolding any_below
-loop-i-init c = (search rules, refl)
-
-pub loop-i-preserved : goal.loop-i-preserved
-unfolding any_below
-loop-i-preserved c = (search rules, rw any_more (cc))
-
-pub returns : goal.returns
-unfolding any_below
-returns c = let e : c.loop-i.i ≡ c.args.self.count = omega arith in rw e at c.loop-i.invariant.1
+pub returns-then-kind-self : goal.returns-then-kind-self
+returns-then-kind-self c = sym (any_below_lem _ _ c.loop-i.i c.loop-i-test.true (eq-eqb _ _ c.if-kind-self.true))
