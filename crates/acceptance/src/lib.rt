@@ -49,7 +49,7 @@ pub fn accept<const N: usize, const M: usize>(
     contexts: &mut [u32; 3],
 ) -> Option<Cursor>
     requires s_value { (is_fault (start_fault limits s.now) ≡ false) × (p ≡ (head_of s.now).platforms) × (i ≡ (head_of s.now).initializations) × (rows ≡ row_count (head_of s.now)) × (x64 ≡ is_x64 (sheet_headers s.now).arch) }
-    requires room { (i ≤ N) × (N < M) }
+    requires room { (i ≤ N) × (i < M) }
     requires contexts_value { contexts.old ≡ (0 ∷ 0 ∷ 0 ∷ []) }
     ensures { MatchOption result (RowsAccepted s.now kept.new.regions kept.new.rows kept.new.order.next contexts.new) (λ at. ReadTo s.now at × (first_directive s.now ≤ at.row → DirectivesAccepted s.now at contexts.new)) }
 {

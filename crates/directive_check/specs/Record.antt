@@ -1,10 +1,10 @@
 -- The contexts' masks, one for each VTL, and the rows that they stand for.
-use Rattle.std.specs.Prelude.{ℕ, ◌+◌, ◌≡◌, List, Bool, true, cond, not, ◌&&◌, ◌||◌, eqb, get_or, Result, MatchResult}
+use Rattle.std.specs.Prelude.{ℕ, ◌+◌, ◌≡◌, List, ⊤, Bool, cond, not, ◌&&◌, ◌||◌, eqb, get_or, Result}
 use Rattle.std.proofs.Math.Option.{Option, none, some}
 use Rattle.rows.specs.Rows.{Rows, any, before}
 use Rattle.igvm_defs.specs.declared.Arch.{Arch}
 use Rattle.igvm_defs.specs.declared.Fault.{Fault}
-use Rattle.igvm_defs.specs.Refusals.{no_fault, is_fault}
+use Rattle.igvm_defs.specs.Refusals.{Told}
 use Rattle.initialization_header.specs.declared.IgvmInitializationHeader.{IgvmInitializationHeader}
 use Rattle.directive_header.specs.declared.IgvmDirectiveHeader.{IgvmDirectiveHeader}
 use Rattle.directive_header.specs.Fields.{kind_number, is_parameter, area_of}
@@ -22,11 +22,10 @@ HoldsContexts contexts xs = (level bits : ℕ) → shares (get_or contexts level
 unfoldable pub lacks_context : List ℕ → Region → Bool
 lacks_context contexts r = not (eqb r.vp_index 0 && shares (get_or contexts r.vtl 0) r.mask)
 
--- what a step at row i answers: the masks with the row's context, or the row's fault
-abbrev pub DirectiveStepped : Arch → Rows IgvmInitializationHeader → Rows IgvmDirectiveHeader → ℕ → Result (List ℕ) Fault → Type 0
-DirectiveStepped arch is xs i answer =
-    MatchResult answer (λ contexts. (directive_fault arch is (before i xs) (xs.row i) ≡ no_fault) × HoldsContexts contexts (before (i + 1) xs))
-    (λ f. (f ≡ directive_fault arch is (before i xs) (xs.row i)) × (is_fault f ≡ true))
+-- what a step at row i answers: the row's fault, and the masks with the row's context
+pub record DirectiveStepped (arch : Arch) (is : Rows IgvmInitializationHeader) (xs : Rows IgvmDirectiveHeader) (i : ℕ) (told : Result ⊤ Fault) (contexts : List ℕ) : Type 0 where
+  pub fault : Told told (directive_fault arch is (before i xs) (xs.row i))
+  pub next : HoldsContexts contexts (before (i + 1) xs)
 
 -- ---- the area rule over numbers: how a row of a kind names an area (0 allocates, 1 uses, 2 inserts, 3 names none), and which
 

@@ -10,7 +10,7 @@ ghost use Rattle.igvm_defs.specs.Vtls.{vtl_number};
 ghost use Rattle.igvm_defs.specs.Kinds.{kind_of};
 ghost use Rattle.masks.specs.Masks.{shares};
 ghost use Rattle.directive_header.specs.Fields.{kind_number, is_parameter, area_named};
-ghost use Rattle.rules.specs.Directives.{validate_directive, wrong_context_arch, bad_area, inside_table};
+ghost use Rattle.rules.specs.Directives.{validate_directive, wrong_context_arch, bad_area, inside_table, directive_fault};
 ghost use Rattle.directive_check.specs.Record.{HoldsContexts, lacks_context, how_named, how, area_in, area_number, DirectiveStepped};
 
 use directive_header::IgvmDirectiveHeader;
@@ -176,20 +176,36 @@ pub fn naming(kind: u32, body: &[u8]) -> AreaName
 
 // ---- one row more
 
-// The contexts' masks with the row's, or its fault. The rows before it tell whether its area is bad; the regions, whether it inserts into a page table.
+// What is wrong with a row. The rows before it tell whether its area is bad; the regions, whether it inserts into a page table.
 #[tactic(auto, unfolding(rules::specs::Directives::directive_fault, rules::specs::Directives::own_directive_fault, igvm_defs::specs::Refusals::is_fault))]
+fn row_fault(arch: Arch, bad: bool, inside: bool, h: IgvmDirectiveHeader) -> Result<(), Fault>
+    ensures { (is : Rows IgvmInitializationHeader) (earlier : Rows IgvmDirectiveHeader) → bad ≡ bad_area earlier h → inside ≡ inside_table is h → Told result (directive_fault arch is earlier h) }
+{
+    validate(h)?;
+    arch_check(arch, h)?;
+    igvm_defs::refuse_if(bad, 32, 0)?;
+    igvm_defs::refuse_if(inside, 33, 0)
+}
+
+// What is wrong with a row, and the contexts' masks with the row's, whatever its fault.
+#[derive(Clone, Copy)]
+pub struct DirectiveStep {
+    pub contexts: [u32; 3],
+    pub told: Result<(), Fault>,
+}
+
+// The row behind those whose contexts the masks hold.
 pub fn step(
     contexts: [u32; 3],
     arch: Arch,
     bad: bool,
     inside: bool,
     h: IgvmDirectiveHeader,
-) -> Result<[u32; 3], Fault>
-    ensures { (is : Rows IgvmInitializationHeader) (xs : Rows IgvmDirectiveHeader) (i : ℕ) → h ≡ xs.row i → bad ≡ bad_area (before i xs) h → inside ≡ inside_table is h → HoldsContexts contexts (before i xs) → DirectiveStepped arch is xs i result }
+) -> DirectiveStep
+    ensures { (is : Rows IgvmInitializationHeader) (xs : Rows IgvmDirectiveHeader) (i : ℕ) → h ≡ xs.row i → bad ≡ bad_area (before i xs) h → inside ≡ inside_table is h → HoldsContexts contexts (before i xs) → DirectiveStepped arch is xs i result.told result.contexts }
 {
-    validate(h)?;
-    arch_check(arch, h)?;
-    igvm_defs::refuse_if(bad, 32, 0)?;
-    igvm_defs::refuse_if(inside, 33, 0)?;
-    Ok(contexts_after(contexts, h))
+    DirectiveStep {
+        contexts: contexts_after(contexts, h),
+        told: row_fault(arch, bad, inside, h),
+    }
 }

@@ -124,11 +124,12 @@ fn inside_table<const N: usize>(held: &RelocRegions<N>, h: IgvmDirectiveHeader) 
     }
 }
 
-// One row: the contexts' masks with its context, or its fault; and the row after it. The rows before it tell whether its area is bad. Verdict and report share
-// it, so that what it calls has one caller.
+// One row: its fault, the contexts' masks with its context, and the row after it. The rows before it tell whether its area is bad. Verdict and report share it,
+// so that what it calls has one caller.
 #[derive(Clone, Copy)]
 pub struct RowPass {
-    pub contexts: Result<[u32; 3], Fault>,
+    pub told: Result<(), Fault>,
+    pub contexts: [u32; 3],
     pub next: Cursor,
 }
 
@@ -142,12 +143,15 @@ pub fn validate_row<const N: usize>(
 ) -> RowPass
     requires { AtRow s.now c × ((kind_of (row_kind s.now c.row)).list ≡ directive_list) × (held.now.count ≤ N) }
     ensures next_value { result.next ≡ cursor_at s.now (c.row + 1) }
-    ensures directive_stepped { (is : Rows IgvmInitializationHeader) (xs : Rows IgvmDirectiveHeader) (i : ℕ) → directive_of (row_kind s.now c.row) (body_of s.now c.row) ≡ xs.row i → bad ≡ bad_area (before i xs) (xs.row i) → HoldsTables held.now.mask held.now.gpa held.now.size held.now.page_table held.now.count is → HoldsContexts contexts (before i xs) → DirectiveStepped arch is xs i result.contexts }
+    ensures directive_stepped { (is : Rows IgvmInitializationHeader) (xs : Rows IgvmDirectiveHeader) (i : ℕ) → directive_of (row_kind s.now c.row) (body_of s.now c.row) ≡ xs.row i → bad ≡ bad_area (before i xs) (xs.row i) → HoldsTables held.now.mask held.now.gpa held.now.size held.now.page_table held.now.count is → HoldsContexts contexts (before i xs) → DirectiveStepped arch is xs i result.told result.contexts }
 {
     let row = sheet_headers::header_at::<IgvmDirectiveHeader>(s, c);
     let inside = inside_table(held, row.header);
+    let step = directive_check::step(contexts, arch, bad, inside, row.header);
+    let masks = step.contexts;
     RowPass {
-        contexts: directive_check::step(contexts, arch, bad, inside, row.header),
+        told: step.told,
+        contexts: masks,
         next: row.next,
     }
 }
@@ -174,7 +178,9 @@ pub fn validate_directive_headers<const N: usize>(
     for i in start..s.head.directives as usize {
         let bad = bad_area(s, c, i);
         let row = validate_row(s.bytes, c, arch, regions, contexts, bad);
-        contexts = row.contexts.map_err(|f| f.in_row((first + i + 1) as u64))?;
+        row.told.map_err(|f| f.in_row((first + i + 1) as u64))?;
+        let masks = row.contexts;
+        contexts = masks;
         c = row.next;
     }
     let lacking = no_matching_vp_context(regions, contexts);

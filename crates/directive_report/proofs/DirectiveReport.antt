@@ -1,9 +1,9 @@
 -- Laws of the report on the directive rows: what the words written tell, what a row's report says, and what holds at a turn of the loop.
 use mir.Val.{bool_byte}
 use Rattle.rows.{proofs.Kit.{◌≡◌, false≢true, refl, sym, ap, ◌∙◌, Bool, true, false, not, ◌&&◌, ◌||◌, or-false, List, [], ◌∷◌, ℕ, ◌+◌, ◌*◌, ◌≤◌, ◌<◌, add-one, add_assoc, arith, eqb, length}, specs.Below.{any_below, sum_below, count_below}, specs.Rows.{Rows, any, before, more}, proofs.Bools.{one_at_most, byte_count}, proofs.BelowLaws.{any_more, any_same_tests, count_more}, proofs.SameLaws.{rows_refl, any_rows, more_last, more_before}}
-use Rattle.std.specs.Prelude.{Result, Ok, Err, MatchResult}
+use Rattle.std.specs.Prelude.{⊤, Result}
 use Rattle.le.specs.Le.{le_at}
-use Rattle.igvm_defs.{specs.declared.Arch.Arch, specs.declared.Fault.Fault, specs.Refusals.{no_fault, is_fault}, proofs.RefusalLaws.{refuse_fault, no_fault_lem}}
+use Rattle.igvm_defs.{specs.declared.Arch.Arch, specs.declared.Fault.Fault, specs.Refusals.{no_fault, is_fault, Told}, proofs.RefusalLaws.{refuse_fault, no_fault_lem}}
 use Rattle.lent.{specs.Lent.{word_put, words_put}, proofs.LentLaws.{word_length, words_length, words_more, put_word_is}}
 use Rattle.sheet.{specs.declared.Cursor.Cursor, specs.Head.{limits, head_of, first_directive}, specs.Read.Readable, specs.Walk.cursor_at, proofs.Readable.readable_bounds}
 use Rattle.directive_header.{specs.declared.IgvmDirectiveHeader.IgvmDirectiveHeader}
@@ -102,14 +102,13 @@ module _ (s : List ℕ) (i : ℕ) where
       → state ≡ said (state_of (kept_to s i)) (area_in name) → bad_in (how name) state ≡ bad_area (kept_to s i) h
   bad_row h name state e named t = rw (t, e) (named_bad (kept_to s i) ((sheet_headers s).directives.row i) name named sound)
 
-  -- the row asked about after the kept rows: the masks with it behind them, or its fault
-  pub row_told : (a : Arch) (h : IgvmDirectiveHeader) (bad : Bool) (answer : Result (List ℕ) Fault) (contexts : List ℕ) → a ≡ (sheet_headers s).arch
+  -- the row asked about after the kept rows: its fault, and the masks with it behind them
+  pub row_told : (a : Arch) (h : IgvmDirectiveHeader) (bad : Bool) (told : Result ⊤ Fault) (contexts masks : List ℕ) → a ≡ (sheet_headers s).arch
       → h ≡ (sheet_headers s).directives.row i → bad ≡ bad_area (kept_to s i) h → HoldsContexts contexts (kept_to s i)
       → ((xs : Rows IgvmDirectiveHeader) (j : ℕ) → h ≡ xs.row j → bad ≡ bad_area (before j xs) (xs.row j) → HoldsContexts contexts (before j xs)
-      → DirectiveStepped a (kept_initializations (sheet_headers s)) xs j answer)
-      → MatchResult answer (λ next. (directive_report (sheet_headers s) i ≡ no_fault) × HoldsContexts next (more (kept_to s i) h))
-      (λ f. (f ≡ directive_report (sheet_headers s) i) × (is_fault f ≡ true))
-  row_told a h bad answer contexts arch row b holds step =
+      → DirectiveStepped a (kept_initializations (sheet_headers s)) xs j told masks)
+      → Told told (directive_report (sheet_headers s) i) × HoldsContexts masks (more (kept_to s i) h)
+  row_told a h bad told contexts masks arch row b holds step =
       let is = kept_initializations (sheet_headers s) in
       let same = more_before (kept_to s i) h in
       let known : bad ≡ bad_area (before (kept_to s i).count (more (kept_to s i) h)) h = b ∙ sym (area_same same h) in
@@ -118,16 +117,7 @@ module _ (s : List ℕ) (i : ℕ) where
       let last : directive_fault a is (before (kept_to s i).count (more (kept_to s i) h)) ((more (kept_to s i) h).row (kept_to s i).count) ≡ directive_fault a is (kept_to s i) h
       = rw (more_last (kept_to s i) h) (directive_same a h (rows_refl is) same) in
       let own : directive_fault a is (kept_to s i) h ≡ directive_report (sheet_headers s) i = rw (arch, row) in
-      let rule = last ∙ own in
-      go answer rule stepped
-    where
-      go : (answer : Result (List ℕ) Fault)
-          → directive_fault a (kept_initializations (sheet_headers s)) (before (kept_to s i).count (more (kept_to s i) h)) ((more (kept_to s i) h).row (kept_to s i).count) ≡ directive_report (sheet_headers s) i
-          → DirectiveStepped a (kept_initializations (sheet_headers s)) (more (kept_to s i) h) (kept_to s i).count answer
-          → MatchResult answer (λ next. (directive_report (sheet_headers s) i ≡ no_fault) × HoldsContexts next (more (kept_to s i) h))
-          (λ f. (f ≡ directive_report (sheet_headers s) i) × (is_fault f ≡ true))
-      go (Ok next) rule (e, holds) = (sym rule ∙ e, rw add-one at holds)
-      go (Err f) rule (e, t) = (e ∙ rule, t)
+      (rw (last ∙ own) at stepped.fault, rw add-one at stepped.next)
 
   -- the row is kept, or the kept rows are those before it
   pub kept_with : (P : Rows IgvmDirectiveHeader → Type 0) → directive_report (sheet_headers s) i ≡ no_fault → P (more (kept_to s i) ((sheet_headers s).directives.row i)) → P (kept_to s (i + 1))

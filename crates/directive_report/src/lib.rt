@@ -153,9 +153,10 @@ fn report_row<const LINKS: usize, const NODES: usize>(
     let name = directive_pass::named_row(s, c, i).name;
     let state = state_named(s, words, i, areas, name);
     let row = directive_pass::validate_row(s.bytes, c, arch, held, contexts, bad_in(name, state));
-    match row.contexts {
-        Ok(kept) => {
+    match row.told {
+        Ok(()) => {
             keep_area(areas, name, state);
+            let kept = row.contexts;
             RowReport {
                 word: 0,
                 contexts: kept,

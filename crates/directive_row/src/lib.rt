@@ -85,7 +85,7 @@ fn parameter_row<const LINKS: usize, const NODES: usize>(
     if b.len() != 8 {
         return false;
     }
-    areas.state_of(le::u32_at(b, 0)) == Some(AreaState::Allocated)
+    areas.is(le::u32_at(b, 0), AreaState::Allocated)
 }
 
 // 50: an address on a page, an area that is allocated.

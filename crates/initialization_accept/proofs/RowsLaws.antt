@@ -12,7 +12,7 @@ use Rattle.rules.{specs.declared.Region.Region, specs.Regions.{region_of, region
 use Rattle.reloc_regions.specs.Regions.{pushed, Lengths}
 use Rattle.clashes.specs.Clashes.{any_tables_share, any_overlap}
 use Rattle.by_start.{specs.{declared.KeptRegions.KeptRegions, ByStart.{Ordered, PlacedAt, More, linked}}}
-use Rattle.initialization_check.{specs.Record.{HoldsRegions, HoldsRows}, proofs.RecordLaws.{holds_none, rows_none, holds_without, rows_without, holds_pushed, rows_pushed, ordered_pushed, holds_clashes}}
+use Rattle.initialization_check.{specs.Record.{HoldsRegions, HoldsRows}, proofs.RecordLaws.{holds_none, rows_none, holds_without, rows_without, holds_pushed, rows_pushed, ordered_behind, holds_clashes}}
 use Rattle.initialization_row.specs.{declared.Row.Row, Row.{InOrder, region_in_row}}
 use Rattle.platform_accept.specs.Accepted.{HoldsCca}
 use Rattle.initialization_accept.specs.Accepted.{InitializationsAccepted, KeptBehind, RowKept}
@@ -48,7 +48,7 @@ faultless {N} {M} arch platforms earlier h o old kept number own cca region hold
         rw is at z
 
 -- a region pushed, with its row's number, and inserted
-pub kept_behind : {N M : ℕ} (k q : KeptRegions N M) (new : Region) (number at from : ℕ) → k.regions.count < N → N < M
+pub kept_behind : {N M : ℕ} (k q : KeptRegions N M) (new : Region) (number at from : ℕ) → k.regions.count < N → k.regions.count + 1 < M
     → Ordered k.order.next k.regions.gpa k.regions.size k.regions.count k.order → any_tables_share new k.regions.mask k.regions.page_table k.regions.count ≡ false
     → (any_overlap new k.regions.mask k.regions.gpa k.regions.size k.regions.count ≡ false) × PlacedAt k.order.next k.regions.gpa k.regions.count new.gpa at → from ≤ k.regions.count
     → q.regions ≡ pushed k.regions new → q.rows ≡ set k.rows k.regions.count number → q.order.next ≡ linked k.order.next at k.regions.count → More k.order from new.size k.regions.count q.order
@@ -59,7 +59,7 @@ kept_behind k q new number at from room wide ordered shares (apart, placed) low 
       regions = regions;
       rows = rows;
       lengths = (arrays, numbers);
-      ordered = ordered_pushed k.regions q.regions k.order q.order new at from room wide ordered placed low regions arrays next places more;
+      ordered = ordered_behind k.regions q.regions k.order q.order new at from room wide ordered placed low regions arrays next places more;
     }
 
 -- ---- the loop
@@ -77,7 +77,7 @@ pub record Asked (N M : ℕ) (s : List ℕ) (end : ℕ) (x64 : Bool) (cca : ℕ)
   pub initializations : (head_of s).initializations ≤ 64
   pub arch : x64 ≡ is_x64 (sheet_headers s).arch
   pub bits : HoldsCca cca (sheet_headers s).platforms
-  pub room : ((head_of s).initializations ≤ N) × (N < M)
+  pub room : ((head_of s).initializations ≤ N) × ((head_of s).initializations < M)
 
 -- at the head of the loop
 pub record Reached {N M : ℕ} (s : List ℕ) (end : ℕ) (x64 : Bool) (cca : ℕ) (kept : KeptRegions N M) (c : Cursor) : Type 0 where
@@ -121,9 +121,9 @@ kept_next {N} first old kept xs i (some new) e room q ordered holds rows =
 
 module _ {N M : ℕ} {s : List ℕ} {end : ℕ} {x64 : Bool} {cca : ℕ} {kept : KeptRegions N M} {c : Cursor} (r : Reached s end x64 cca kept c) where
   -- at a row: the table has it, and there is room for its region
-  pub row_known : c.row < end → (24 + 8 * c.row ≤ length s) × (c.at ≤ length s) × (c.row < 80) × (kept.regions.count < N) × (kept.regions.count < 64) × (N < M)
+  pub row_known : c.row < end → (24 + 8 * c.row ≤ length s) × (c.at ≤ length s) × (c.row < 80) × (kept.regions.count < N) × (kept.regions.count < 64) × (kept.regions.count + 1 < M)
   row_known l =
-      let a = r.asked in let p = r.accepted in let q = p.read.room in let h = p.holds.count in let t = a.table in let e = a.last in
+      let a = r.asked in let p = r.accepted in let q = p.read.room in let h = p.holds.count in let t = a.table in let e = a.last in let m = a.room in
       omega arith
 
   -- the header of the row, by its kind and its body

@@ -23,7 +23,7 @@ fn keep_region<const N: usize, const M: usize>(
     number: u16,
     kept: &mut KeptRegions<N, M>,
 ) -> bool
-    requires room { (kept.old.regions.count < N) × (kept.old.regions.count < 255) × (N < M) }
+    requires room { (kept.old.regions.count < N) × (kept.old.regions.count < 255) × (kept.old.regions.count + 1 < M) }
     requires ordered { Ordered kept.old.order.next kept.old.regions.gpa kept.old.regions.size kept.old.regions.count kept.old.order }
     ensures { MatchBool result (KeptBehind kept.old region number kept.new) (kept.new ≡ kept.old) }
 {
@@ -47,7 +47,7 @@ fn keep_row<const N: usize, const M: usize>(
     number: u16,
     kept: &mut KeptRegions<N, M>,
 ) -> bool
-    requires room { (kept.old.regions.count < N) × (kept.old.regions.count < 255) × (N < M) }
+    requires room { (kept.old.regions.count < N) × (kept.old.regions.count < 255) × (kept.old.regions.count + 1 < M) }
     requires ordered { Ordered kept.old.order.next kept.old.regions.gpa kept.old.regions.size kept.old.regions.count kept.old.order }
     ensures { MatchBool result (MatchOption found ⊥ (λ row. RowKept kept.old (region_in_row row) number kept.new)) (kept.new ≡ kept.old) }
 {
@@ -70,7 +70,7 @@ pub fn accept<const N: usize, const M: usize>(
 ) -> Cursor
     requires s_in_bounds { (bodies_at (head_of s.now) ≤ length s.now) × ReadTo s.now from × (from.row ≡ (head_of s.now).platforms) × (end ≡ (head_of s.now).platforms + (head_of s.now).initializations) }
     requires s_bound { ((head_of s.now).platforms ≤ platform_rows) × ((head_of s.now).initializations ≤ initialization_rows) × (x64 ≡ is_x64 (sheet_headers s.now).arch) × HoldsCca cca (sheet_headers s.now).platforms }
-    requires room { ((head_of s.now).initializations ≤ N) × (N < M) }
+    requires room { ((head_of s.now).initializations ≤ N) × ((head_of s.now).initializations < M) }
     ensures { InitializationsAccepted s.now kept.new.regions kept.new.rows kept.new.order.next result }
 {
     kept.regions.count = 0;

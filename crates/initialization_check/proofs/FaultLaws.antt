@@ -6,13 +6,12 @@ use Rattle.platform_header.specs.declared.IgvmPlatformHeader.{IgvmPlatformHeader
 use Rattle.initialization_header.{specs.declared.IgvmInitializationHeader.IgvmInitializationHeader, specs.Fields.kind_number}
 use Rattle.rules.{specs.Platforms.last_is_cca, specs.declared.Region.Region, specs.Regions.{region_of, region_passes}, specs.Initializations.{validate_initialization, wrong_policy_arch, bit_without_cca, without_cca, refuse_bit, initialization_fault}}
 use Rattle.platform_check.{specs.declared.Platforms.Platforms, specs.Record.{HoldsPlatforms, last_type_is_cca}, proofs.RecordLaws.holds_cca}
-use Rattle.reloc_regions.specs.{declared.RelocRegions.RelocRegions}
-use Rattle.initialization_check.specs.Record.{policy_fault, region_fault, HoldsClashes}
+use Rattle.initialization_check.specs.Record.{policy_fault, clash_fault, Clashes}
 
--- the fault of a region after those of the record, where there is a region
-abbrev pub later_fault : {N : ℕ} → RelocRegions N → Option Region → Fault
-later_fault r none = no_fault
-later_fault r (some new) = region_fault r new
+-- 26 to 29 of a region, where there is one
+abbrev pub later_fault : Option Region → Bool → Bool → Fault
+later_fault none shares overlaps = no_fault
+later_fault (some new) shares overlaps = clash_fault new shares overlaps
 
 module _ (arch : Arch) (platforms : Rows IgvmPlatformHeader) where
   -- a header of another kind than 17
@@ -32,12 +31,13 @@ module _ (arch : Arch) (platforms : Rows IgvmPlatformHeader) where
       go false (some bit) = refl
 
   -- the header's own fault, then 24 and 25, then, where it has a region, 26 to 29
-  pub row_fault_lem : {N : ℕ} (r : RelocRegions N) (earlier : Rows IgvmInitializationHeader) (h : IgvmInitializationHeader) (o : Option Region) → HoldsClashes r earlier → region_of h ≡ o
-      → initialization_fault arch platforms earlier h ≡ or_fault (validate_initialization h) (or_fault (policy_fault arch platforms h) (later_fault r o))
-  unfolding initialization_fault region_passes policy_fault region_fault
-  row_fault_lem r earlier h (some new) held e =
-      rw (e, held.tables_share_lem new, held.overlaps new) (policy_then (validate_initialization h) (wrong_policy_arch arch h) (without_cca platforms h) _)
-  row_fault_lem r earlier h none held e = rw e (policy_then (validate_initialization h) (wrong_policy_arch arch h) (without_cca platforms h) _)
+  pub row_fault_lem : (earlier : Rows IgvmInitializationHeader) (h : IgvmInitializationHeader) (o : Option Region) (shares overlaps : Bool) → region_of h ≡ o → Clashes o shares overlaps earlier
+      → initialization_fault arch platforms earlier h ≡ or_fault (validate_initialization h) (or_fault (policy_fault arch platforms h) (later_fault o shares overlaps))
+  unfolding initialization_fault region_passes policy_fault clash_fault
+  row_fault_lem earlier h (some new) shares overlaps e clash =
+      let (share, meet) = clash new refl in
+      rw (e, share, meet) (policy_then (validate_initialization h) (wrong_policy_arch arch h) (without_cca platforms h) _)
+  row_fault_lem earlier h none shares overlaps e clash = rw e (policy_then (validate_initialization h) (wrong_policy_arch arch h) (without_cca platforms h) _)
 
 -- for 25: a record of the platform rows finds the same bit
 pub holds_bit : (r : Platforms) (xs : Rows IgvmPlatformHeader) (mask : ℕ) → HoldsPlatforms r xs

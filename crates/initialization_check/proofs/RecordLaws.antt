@@ -3,7 +3,7 @@ use Rattle.rows.{proofs.Kit.{◌≡◌, refl, sym, subst, ap, ap₂, ◌∙◌, 
 use Rattle.initialization_header.specs.declared.IgvmInitializationHeader.{IgvmInitializationHeader}
 use Rattle.rules.{specs.declared.Region.Region, specs.Regions.{region_of, region_passes, tables_share, overlap}}
 use Rattle.reloc_regions.specs.{declared.RelocRegions.RelocRegions, Regions.{entry, pushed, Lengths}}
-use Rattle.by_start.{specs.{declared.Order.Order, ByStart.{Ordered, PlacedAt, More, linked}}, proofs.OrderedLaws.{ordered_stored, linked_length}}
+use Rattle.by_start.{specs.{declared.Order.Order, ByStart.{Ordered, PlacedAt, More, linked}}, proofs.OrderedLaws.{ordered_stored_linked, linked_long}}
 use Rattle.initialization_check.specs.Record.{any_region, HoldsRegions, RegionOfRow, HoldsRows, HoldsClashes}
 
 -- no region, and no row
@@ -138,14 +138,21 @@ module _ {N : ℕ} (r : RelocRegions N) (new : Region) (lengths : Lengths (pushe
               },
             )
 
--- and its place in order of start
-pub ordered_pushed : {N M : ℕ} (r q : RelocRegions N) (o w : Order M) (new : Region) (at from : ℕ) → r.count < N → N < M → Ordered o.next r.gpa r.size r.count o
+-- and its place in order of start, where the order has room for one more
+pub ordered_behind : {N M : ℕ} (r q : RelocRegions N) (o w : Order M) (new : Region) (at from : ℕ) → r.count < N → r.count + 1 < M → Ordered o.next r.gpa r.size r.count o
     → PlacedAt o.next r.gpa r.count new.gpa at → from ≤ r.count → q ≡ pushed r new → Lengths q → w.next ≡ linked o.next at r.count → length w.next ≡ M
     → More o from new.size r.count w → Ordered w.next q.gpa q.size q.count w
-ordered_pushed {N} {M} r q o w new at from room wide ordered placed low regions arrays next places more =
+ordered_behind {N} {M} r q o w new at from room wide ordered placed low regions arrays next places more =
     let ls = rw regions at arrays in
     let starts : r.count < length r.gpa = let z : length r.gpa ≡ N = simp length-set at ls.gpa in omega arith in
     let long : r.count < length r.size = let z : length r.size ≡ N = simp length-set at ls.size in omega arith in
-    let free : r.count + 1 < length o.next = let z : length o.next ≡ M = rw linked_length at (rw next at places) in omega arith in
+    let free : r.count + 1 < length o.next = let z : length o.next ≡ M = rw linked_long at (rw next at places) in omega arith in
     subst (λ (x : List ℕ). Ordered x q.gpa q.size q.count w) (sym next)
-    (rw regions (ordered_stored o.next r.gpa r.size r.count o new.gpa new.size at from w ordered starts long placed low free more))
+    (rw regions (ordered_stored_linked o.next r.gpa r.size r.count o new.gpa new.size at from w ordered starts long placed low free more))
+
+-- where the order has a place behind the last region that the record has room for
+pub ordered_pushed : {N M : ℕ} (r q : RelocRegions N) (o w : Order M) (new : Region) (at from : ℕ) → r.count < N → N < M → Ordered o.next r.gpa r.size r.count o
+    → PlacedAt o.next r.gpa r.count new.gpa at → from ≤ r.count → q ≡ pushed r new → Lengths q → w.next ≡ linked o.next at r.count → length w.next ≡ M
+    → More o from new.size r.count w → Ordered w.next q.gpa q.size q.count w
+ordered_pushed r q o w new at from room wide ordered placed low regions arrays next places more =
+    ordered_behind r q o w new at from room (omega arith) ordered placed low regions arrays next places more

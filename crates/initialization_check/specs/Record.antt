@@ -1,12 +1,12 @@
 -- The rows that a record of regions stands for, in whatever order it keeps them, and what the check of a row answers.
-use Rattle.std.specs.Prelude.{ℕ, ◌+◌, ◌<◌, ◌≤◌, ◌≡◌, Bool, true, List, get_or, ⊤, Result, MatchResult, Some, None}
+use Rattle.std.specs.Prelude.{ℕ, ◌+◌, ◌<◌, ◌≤◌, ◌≡◌, Bool, true, false, List, get_or, ⊤, Result, Some, None}
 use Rattle.std.specs.Prelude as rust
 use Rattle.std.proofs.Math.Option.{Option, none, some}
 use Rattle.rows.specs.Below.{any_below, count_below}
 use Rattle.rows.specs.Rows.{Rows, any, before, count_of}
 use Rattle.igvm_defs.specs.declared.Arch.{Arch}
 use Rattle.igvm_defs.specs.declared.Fault.{Fault}
-use Rattle.igvm_defs.specs.Refusals.{fault, no_fault, refuse, is_fault}
+use Rattle.igvm_defs.specs.Refusals.{fault, no_fault, refuse, Told}
 use Rattle.addresses.specs.Addresses.{ends_beyond}
 use Rattle.platform_header.specs.declared.IgvmPlatformHeader.{IgvmPlatformHeader}
 use Rattle.initialization_header.specs.declared.IgvmInitializationHeader.{IgvmInitializationHeader}
@@ -15,7 +15,7 @@ use Rattle.reloc_regions.specs.declared.RelocRegions.{RelocRegions}
 use Rattle.reloc_regions.specs.Regions.{entry}
 use Rattle.clashes.specs.Clashes.{any_tables_share, any_overlap}
 use Rattle.by_start.specs.declared.Order.{Order}
-use Rattle.by_start.specs.ByStart.{PlacedAt}
+use Rattle.by_start.specs.ByStart.{PlacedAt, Searched}
 use Rattle.initialization_check.specs.declared.NewRegion.{NewRegion}
 use Rattle.rules.specs.Regions.{region_of, region_passes, tables_share, overlap}
 use Rattle.rules.specs.Initializations.{wrong_policy_arch, without_cca, refuse_bit, initialization_fault}
@@ -52,14 +52,19 @@ policy_fault arch platforms h =
     (refuse_bit (without_cca platforms h)
     no_fault)
 
--- 26 to 29: a region after those of the record
-unfoldable pub region_fault : {N : ℕ} → RelocRegions N → Region → Fault
-region_fault r new =
-    refuse (any_tables_share new r.mask r.page_table r.count) (fault 26 0)
+-- 26 to 29: a region, where it is known whether a page table before it shares a bit with it, and whether a region before it overlaps it
+unfoldable pub clash_fault : Region → Bool → Bool → Fault
+clash_fault new shares overlaps =
+    refuse shares (fault 26 0)
     (refuse (eqb new.size 0) (fault 27 0)
     (refuse (ends_beyond new.gpa new.size) (fault 28 0)
-    (refuse (any_overlap new r.mask r.gpa r.size r.count) (fault 29 0)
+    (refuse overlaps (fault 29 0)
     no_fault)))
+
+-- whether page tables of earlier rows share a bit with a region, and whether regions of theirs overlap it
+abbrev pub Clashes : Option Region → Bool → Bool → Rows IgvmInitializationHeader → Type 0
+Clashes o shares overlaps earlier =
+    (new : Region) → o ≡ some new → (shares ≡ any (region_passes (tables_share new)) earlier) × (overlaps ≡ any (region_passes (overlap new)) earlier)
 
 -- the regions of the record clash with a region exactly where the rows' regions do
 pub record HoldsClashes {N : ℕ} (r : RelocRegions N) (xs : Rows IgvmInitializationHeader) : Type 0 where
@@ -76,13 +81,17 @@ abbrev pub region_in : rust.Option NewRegion → Option Region
 region_in None = none
 region_in (Some new) = some new.region
 
--- what the check of a row answers: its region where it has one, or else its fault
-abbrev pub Checked : Arch → Rows IgvmPlatformHeader → Rows IgvmInitializationHeader → IgvmInitializationHeader → Result (rust.Option NewRegion) Fault → Type 0
-Checked arch ps earlier h answer =
-    let f = initialization_fault arch ps earlier h in
-    MatchResult answer (λ new. (f ≡ no_fault) × (region_of h ≡ region_in new)) (λ e. (e ≡ f) × (is_fault f ≡ true))
+-- what the check of a row answers: the row's fault, and its region where it has one
+pub record InitializationStepped (arch : Arch) (ps : Rows IgvmPlatformHeader) (earlier : Rows IgvmInitializationHeader) (h : IgvmInitializationHeader) (told : Result ⊤ Fault) (new : rust.Option NewRegion) : Type 0 where
+  pub fault : Told told (initialization_fault arch ps earlier h)
+  pub region : region_of h ≡ region_in new
 
 -- a new region's place, where there is one
 abbrev pub AllPlaced : {N M : ℕ} → Order M → RelocRegions N → rust.Option NewRegion → Type 0
 AllPlaced o r None = ⊤
 AllPlaced o r (Some new) = Placed o r new
+
+-- what the search for a new region's place tells, where there is one, and a place among the regions at which it began
+abbrev pub AllSearched : {N M : ℕ} → Order M → RelocRegions N → rust.Option NewRegion → Type 0
+AllSearched o r None = ⊤
+AllSearched o r (Some new) = Searched new.region r.mask r.gpa r.size o.next r.count new.at × (new.from ≤ r.count)

@@ -1,20 +1,20 @@
 // Initialization headers: refusals 16 to 29, header by header, and the region that a header adds to those before it.
 #![tactic(auto)]
 
-ghost use Rattle.std.specs.Prelude.{◌≡◌, ⊤, true, not, ◌≤◌, ◌<◌, MatchResult};
+ghost use Rattle.std.specs.Prelude.{◌≡◌, ⊤, true, false, not, ◌≤◌, ◌<◌, MatchResult, MatchOption};
 ghost use Rattle.sheet.specs.Head.{platform_rows};
 ghost use Rattle.rows.specs.Rows.{Rows};
 ghost use Rattle.rows.specs.Answered.{option_of};
 ghost use Rattle.platform_header.specs.declared.IgvmPlatformHeader.{IgvmPlatformHeader};
 ghost use Rattle.initialization_header.specs.declared.IgvmInitializationHeader.{IgvmInitializationHeader};
-ghost use Rattle.igvm_defs.specs.Refusals.{no_fault, is_fault, Told};
+ghost use Rattle.igvm_defs.specs.Refusals.{no_fault, Told};
 ghost use Rattle.igvm_defs.specs.Vtls.{vtl_number};
 ghost use Rattle.masks.specs.Masks.{individual_masks, first_mask};
 ghost use Rattle.platform_check.specs.Record.{HoldsPlatforms, last_type_is_cca};
 ghost use Rattle.rules.specs.Regions.{region_of};
-ghost use Rattle.rules.specs.Initializations.{validate_region, validate_table, validate_initialization, refuse_bit};
-ghost use Rattle.by_start.specs.ByStart.{Ordered};
-ghost use Rattle.initialization_check.specs.Record.{policy_fault, region_fault, HoldsClashes, Placed, Checked, AllPlaced};
+ghost use Rattle.rules.specs.Initializations.{validate_region, validate_table, validate_initialization, initialization_fault, refuse_bit};
+ghost use Rattle.by_start.specs.ByStart.{Ordered, Searched};
+ghost use Rattle.initialization_check.specs.Record.{policy_fault, clash_fault, Clashes, HoldsClashes, AllSearched, InitializationStepped, AllPlaced};
 
 use by_start::Order;
 use igvm_defs::{Arch, Fault, Vtl};
@@ -147,7 +147,44 @@ pub fn region_of(h: IgvmInitializationHeader) -> Option<Region>
     }
 }
 
-// A region, where the search for its place in order of start began, and the region behind which it comes.
+// ---- a row after those before it
+
+// 26 to 29, where it is known whether a page table before the region shares a bit with it, and whether a region before it overlaps it.
+#[tactic(auto, unfolding(crate::specs::Record::clash_fault, igvm_defs::specs::Refusals::is_fault))]
+fn clash_fault(region: Region, shares: bool, overlaps: bool) -> Result<(), Fault>
+    ensures told { Told result (clash_fault region shares overlaps) }
+    ensures apart { MatchResult result (λ _. overlaps ≡ false) (λ _. ⊤) }
+{
+    igvm_defs::refuse_if(shares, 26, 0)?;
+    igvm_defs::refuse_if(region.size == 0, 27, 0)?;
+    igvm_defs::refuse_if(addresses::ends_beyond(region.gpa, region.size), 28, 0)?;
+    igvm_defs::refuse_if(overlaps, 29, 0)
+}
+
+// The fault of a row whose region, if it has one, is `new`, where it is known whether a page table before it shares a bit with that, and whether a region before it
+// overlaps it. Put into its callers: so the header is not copied.
+#[inline(always)]
+pub fn row_fault(
+    arch: Arch,
+    platforms: &Platforms,
+    h: IgvmInitializationHeader,
+    new: Option<Region>,
+    shares: bool,
+    overlaps: bool,
+) -> Result<(), Fault>
+    requires { platforms.now.count ≤ platform_rows }
+    ensures told { (ps : Rows IgvmPlatformHeader) (earlier : Rows IgvmInitializationHeader) → HoldsPlatforms platforms.now ps → region_of h ≡ option_of new → Clashes (option_of new) shares overlaps earlier → Told result (initialization_fault arch ps earlier h) }
+    ensures apart { MatchResult result (λ _. MatchOption new ⊤ (λ _. overlaps ≡ false)) (λ _. ⊤) }
+{
+    validate(h)?;
+    policy_fault(arch, platforms, h)?;
+    match new {
+        Some(region) => clash_fault(region, shares, overlaps),
+        None => Ok(()),
+    }
+}
+
+// A region, where the search for its place in order of start began, and the region behind which it comes: one more than there are where it overlaps any of them.
 #[derive(Clone, Copy)]
 pub struct NewRegion {
     pub region: Region,
@@ -155,46 +192,58 @@ pub struct NewRegion {
     pub at: usize,
 }
 
-// 26 to 29: a region after those before it, and its place among them.
-#[tactic(auto, unfolding(crate::specs::Record::region_fault, igvm_defs::specs::Refusals::is_fault))]
-fn place<const N: usize, const M: usize>(
+// The place of a region in order of start among those before it.
+fn search<const N: usize, const M: usize>(
     region: Region,
     regions: &RelocRegions<N>,
     order: &Order<M>,
-) -> Result<NewRegion, Fault>
+) -> NewRegion
     requires { (regions.now.count ≤ N) × (regions.now.count < M) × Ordered order.now.next regions.now.gpa regions.now.size regions.now.count order.now }
-    ensures { MatchResult result (λ new. (region_fault regions.now region ≡ no_fault) × (new.region ≡ region) × Placed order.now regions.now new) (λ e. (e ≡ region_fault regions.now region) × (is_fault (region_fault regions.now region) ≡ true)) }
+    ensures { (result.region ≡ region) × Searched region regions.now.mask regions.now.gpa regions.now.size order.now.next regions.now.count result.at × (result.from ≤ regions.now.count) }
 {
-    igvm_defs::refuse_if(clashes::any_tables_share(region, regions), 26, 0)?;
-    igvm_defs::refuse_if(region.size == 0, 27, 0)?;
-    igvm_defs::refuse_if(addresses::ends_beyond(region.gpa, region.size), 28, 0)?;
     let from = order.begin(region.gpa, regions);
-    match order.search(region, regions, from) {
-        Some(at) => Ok(NewRegion { region, from, at }),
-        None => Err(Fault {
-            number: 29,
-            detail: 0,
-        }),
-    }
+    let at = match order.search(region, regions, from) {
+        Some(at) => at,
+        None => regions.count + 1,
+    };
+    NewRegion { region, from, at }
 }
 
-// The fault of a row, or its region where it has one, with its place in order of start among the regions before it.
+// What is wrong with a row, and its region where it has one, with its place in order of start among the regions before it, whatever its fault.
+#[derive(Clone, Copy)]
+pub struct InitializationStep {
+    pub told: Result<(), Fault>,
+    pub new: Option<NewRegion>,
+}
+
+// A row after those whose regions the record has: who keeps them stores the region in place.
 pub fn check<const N: usize, const M: usize>(
     arch: Arch,
     platforms: &Platforms,
     h: IgvmInitializationHeader,
     regions: &RelocRegions<N>,
     order: &Order<M>,
-) -> Result<Option<NewRegion>, Fault>
+) -> InitializationStep
     requires { (regions.now.count ≤ N) × (regions.now.count < M) × (platforms.now.count ≤ platform_rows) × Ordered order.now.next regions.now.gpa regions.now.size regions.now.count order.now }
-    ensures checked { (ps : Rows IgvmPlatformHeader) (earlier : Rows IgvmInitializationHeader) → HoldsPlatforms platforms.now ps → HoldsClashes regions.now earlier → Checked arch ps earlier h result }
-    ensures placed { MatchResult result (λ new. AllPlaced order.now regions.now new) (λ _. ⊤) }
+    ensures stepped { (ps : Rows IgvmPlatformHeader) (earlier : Rows IgvmInitializationHeader) → HoldsPlatforms platforms.now ps → HoldsClashes regions.now earlier → InitializationStepped arch ps earlier h result.told result.new }
+    ensures searched { AllSearched order.now regions.now result.new }
+    ensures placed { MatchResult result.told (λ _. AllPlaced order.now regions.now result.new) (λ _. ⊤) }
 {
-    validate(h)?;
-    policy_fault(arch, platforms, h)?;
     match region_of(h) {
-        Some(region) => Ok(Some(place(region, regions, order)?)),
-        None => Ok(None),
+        Some(region) => {
+            let new = search(region, regions, order);
+            let shares = clashes::any_tables_share(region, regions);
+            let overlaps = regions.count < new.at;
+            let told = row_fault(arch, platforms, h, Some(region), shares, overlaps);
+            InitializationStep {
+                told,
+                new: Some(new),
+            }
+        }
+        None => InitializationStep {
+            told: row_fault(arch, platforms, h, None, false, false),
+            new: None,
+        },
     }
 }
 

@@ -38,12 +38,13 @@ fn add_row<const N: usize, const M: usize>(
     ensures held { (ps : Rows IgvmPlatformHeader) (earlier : Rows IgvmInitializationHeader) → HoldsPlatforms platforms.now ps → HoldsRegions regions.old earlier → MatchResult result (λ _. HoldsRegions regions.new (more earlier h)) (λ _. regions.new ≡ regions.old) }
     ensures ordered { Ordered order.new.next regions.new.gpa regions.new.size regions.new.count order.new }
 {
-    let Some(new) = initialization_check::check(arch, platforms, h, regions, order)? else {
-        return Ok(());
-    };
-    let n = regions.count;
-    regions.push(new.region);
-    order.insert(new.at, new.from, new.region.size, n);
+    let step = initialization_check::check(arch, platforms, h, regions, order);
+    step.told?;
+    if let Some(new) = step.new {
+        let n = regions.count;
+        regions.push(new.region);
+        order.insert(new.at, new.from, new.region.size, n);
+    }
     Ok(())
 }
 

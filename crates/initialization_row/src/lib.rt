@@ -113,7 +113,9 @@ fn table_row(b: &[u8]) -> Option<Row>
     None
 }
 
-// The row, where it is known to be in order whatever initialization rows stand before it.
+// The row, where it is known to be in order whatever initialization rows stand before it. Put into its caller, of which there is one for few rows and one for many: so the
+// row is handed over in registers.
+#[inline(always)]
 pub fn row_of(kind: u32, b: &[u8], x64: bool, cca: u32) -> Option<Row>
     ensures { (arch : Arch) (ps : Rows IgvmPlatformHeader) → x64 ≡ is_x64 arch → HoldsCca cca ps → MatchOption result ⊤ (λ row. InOrder arch ps kind b.now row) }
 {

@@ -19,7 +19,7 @@ pub fn judge<const N: usize, const M: usize>(
     contexts: &mut [u32; 3],
 ) -> Result<(), Refusal>
     requires s_value { (is_fault (start_fault limits s.now) ≡ false) × (head ≡ head_of s.now) }
-    requires room { ((head_of s.now).initializations ≤ N) × (N < M) }
+    requires room { ((head_of s.now).initializations ≤ N) × ((head_of s.now).initializations < M) }
     requires contexts_value { contexts.old ≡ (0 ∷ 0 ∷ 0 ∷ []) }
     ensures { Passes result (verdict_refusal limits s.now) (λ _. Kept s.now kept.new.regions kept.new.rows kept.new.order.next contexts.new) }
 {

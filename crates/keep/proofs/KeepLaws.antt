@@ -6,7 +6,7 @@ use Rattle.initialization_header.{specs.declared.IgvmInitializationHeader.IgvmIn
 use Rattle.sheet_headers.{specs.Headers.sheet_headers, proofs.HeaderLaws.sheet_counts, proofs.ListLaws.{AtList, at_initialization, initialization_header}}
 use Rattle.rules.{specs.declared.Region.Region, specs.Regions.region_of}
 use Rattle.reloc_regions.specs.Regions.{pushed, Lengths}
-use Rattle.by_start.{specs.declared.KeptRegions.KeptRegions, specs.ByStart.{ByStart, PlacedAt, linked}, proofs.OrderedLaws.{by_start_stored, linked_length}}
+use Rattle.by_start.{specs.declared.KeptRegions.KeptRegions, specs.ByStart.{ByStart, PlacedAt, linked}, proofs.OrderedLaws.{by_start_stored_linked, linked_long}}
 use Rattle.initialization_check.{specs.Record.{HoldsRegions, HoldsRows}, proofs.RecordLaws.{holds_none, rows_none, holds_without, rows_without, holds_pushed, rows_pushed}}
 use Rattle.keep.specs.Kept.{KeptOf}
 
@@ -23,7 +23,7 @@ kept_without first k xs i e h =
     }
 
 -- a row whose region is kept behind the others
-pub kept_behind : {N M : ℕ} (first : ℕ) (k q : KeptRegions N M) (xs : Rows IgvmInitializationHeader) (i at : ℕ) (new : Region) → k.regions.count < N → N < M
+pub kept_behind : {N M : ℕ} (first : ℕ) (k q : KeptRegions N M) (xs : Rows IgvmInitializationHeader) (i at : ℕ) (new : Region) → k.regions.count < N → k.regions.count + 1 < M
     → region_of (xs.row i) ≡ some new → PlacedAt k.order.next k.regions.gpa k.regions.count new.gpa at
     → q.regions ≡ pushed k.regions new → q.rows ≡ set k.rows k.regions.count (first + i + 1) → q.order.next ≡ linked k.order.next at k.regions.count → Lengths q.regions × (length q.rows ≡ N) × (length q.order.next ≡ M)
     → KeptOf first k (before i xs) → KeptOf first q (before (i + 1) xs)
@@ -31,11 +31,11 @@ kept_behind {N} {M} first k q xs i at new room more e placed regions rows next (
     let ls = rw regions at arrays in
     let g : k.regions.count < length k.regions.gpa = rw (simp length-set at ls.gpa) room in
     let n : k.regions.count < length k.rows = let z : length k.rows ≡ N = simp length-set at (rw rows at numbers) in omega arith in
-    let x : k.regions.count + 1 < length k.order.next = let z : length k.order.next ≡ M = rw linked_length at (rw next at places) in omega arith in
+    let x : k.regions.count + 1 < length k.order.next = let z : length k.order.next ≡ M = rw linked_long at (rw next at places) in omega arith in
     record {
       regions = rw regions (holds_pushed k.regions new ls room xs i e h.regions);
       rows = rw (regions, rows) (rows_pushed k.regions new ls room first k.rows xs i h.regions h.rows n e);
-      order = rw (regions, next) (by_start_stored k.order.next k.regions.gpa k.regions.count new.gpa at h.order g placed x);
+      order = rw (regions, next) (by_start_stored_linked k.order.next k.regions.gpa k.regions.count new.gpa at h.order g placed x);
     }
 
 -- ---- the loop
@@ -46,13 +46,13 @@ pub record Reached {N M : ℕ} (s : List ℕ) (first n : ℕ) (kept : KeptRegion
   pub readable : Readable limits s
   pub first_row : first ≡ (head_of s).platforms
   pub rows : n ≡ (head_of s).initializations
-  pub room : (n ≤ N) × (N < M)
+  pub room : (n ≤ N) × (n < M)
   pub at : c ≡ cursor_at s (first + i)
   pub holds : KeptOf first kept (before i (sheet_headers s).initializations)
 
 -- no row passed
 pub reached_none : {N M : ℕ} (s : List ℕ) (first n : ℕ) (kept : KeptRegions N M) (c : Cursor) → Readable limits s → first ≡ (head_of s).platforms
-    → n ≡ (head_of s).initializations → (n ≤ N) × (N < M) → c ≡ cursor_at s first → kept.regions.count ≡ 0 → ByStart kept.order.next kept.regions.gpa 0 → Reached s first n kept c 0
+    → n ≡ (head_of s).initializations → (n ≤ N) × (n < M) → c ≡ cursor_at s first → kept.regions.count ≡ 0 → ByStart kept.order.next kept.regions.gpa 0 → Reached s first n kept c 0
 reached_none s first n kept c readable first_row rows room at empty order =
     record {
       readable = readable;
@@ -73,7 +73,7 @@ module _ {N M : ℕ} {s : List ℕ} {first n : ℕ} {kept : KeptRegions N M} {c 
   row_known l = at_initialization s r.readable c i (rw r.first_row at r.at) (rw (← r.rows) l)
 
   -- there is room for the row's region, and the row's number is small
-  pub row_room : i < n → (first + i < 80) × (kept.regions.count < 64) × (kept.regions.count < N)
+  pub row_room : i < n → (first + i < 80) × (kept.regions.count < 64) × (kept.regions.count < N) × (kept.regions.count + 1 < M)
   row_room l =
       let b = readable_bounds s r.readable in let e = r.rows in let d = r.first_row in let h = r.holds.regions.count in let m = r.room in
       omega arith

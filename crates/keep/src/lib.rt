@@ -20,7 +20,7 @@ fn keep_row<const N: usize, const M: usize>(
     number: u16,
     kept: &mut KeptRegions<N, M>,
 )
-    requires room { (kept.old.regions.count < N) × (kept.old.regions.count < 255) × (N < M) }
+    requires room { (kept.old.regions.count < N) × (kept.old.regions.count < 255) × (kept.old.regions.count + 1 < M) }
     requires by_start { ByStart kept.old.order.next kept.old.regions.gpa kept.old.regions.count }
     ensures { (first : ℕ) (xs : Rows IgvmInitializationHeader) (i : ℕ) → h ≡ xs.row i → number ≡ first + i + 1 → KeptOf first kept.old (before i xs) → KeptOf first kept.new (before (i + 1) xs) }
 {
@@ -38,7 +38,7 @@ pub fn keep_regions<const N: usize, const M: usize>(
     s: &ReadableSheet<'_>,
     kept: &mut KeptRegions<N, M>,
 )
-    requires { ((head_of s.now.bytes.now).initializations ≤ N) × (N < M) }
+    requires { ((head_of s.now.bytes.now).initializations ≤ N) × ((head_of s.now.bytes.now).initializations < M) }
     ensures holds_regions { HoldsRegions kept.new.regions (sheet_headers s.now.bytes.now).initializations }
     ensures holds_rows { HoldsRows (head_of s.now.bytes.now).platforms kept.new.rows kept.new.regions (sheet_headers s.now.bytes.now).initializations }
     ensures by_start { ByStart kept.new.order.next kept.new.regions.gpa kept.new.regions.count }

@@ -216,6 +216,13 @@ pub numbers_kept : (numbers b : List ℕ) → length b / 8 < length numbers → 
 unfolding numbers_put
 numbers_kept numbers b l = rw (lt-leb (length numbers) (length b / 8) l)
 
+pub numbers_length : (numbers b : List ℕ) → length (numbers_put numbers b) ≡ length b
+unfolding numbers_put
+numbers_length numbers b = elim (dec_lt (length b / 8) (length numbers)) [
+  | yes l ↦ rw (lt-leb (length numbers) (length b / 8) l)
+  | no l ↦ rw (le-leb (length numbers) (length b / 8) (omega arith)) (put_length _ _ _ b)
+]
+
 -- ---- a row
 
 -- byte j of a row of eight words

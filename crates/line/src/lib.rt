@@ -7,21 +7,30 @@ ghost use Rattle.line.specs.Line.{digits_in, decimal, newline, accepted_line, re
 use answers::Verdict;
 use std::marker::Model;
 
-// A line so far, of at most 96 bytes: no heap is asked. Clauses see its bytes.
-#[derive(Drop)]
+// A line so far, of at most 96 bytes: no heap is asked. Clauses see its bytes. Behind them stand zeros, so that these bytes tell all of the line, and it may be
+// copied.
+#[derive(Clone, Copy)]
 pub struct Line {
     bytes: [u8; 96],
     len: usize,
 }
 
 impl Model for Line {
-    ghost use Rattle.std.specs.Prelude.{ℕ, List, ◌≤◌, take};
+    ghost use Rattle.std.specs.Prelude.{ℕ, List, ◌++◌, ◌-◌, length, take, replicate};
+    ghost use Rattle.line.specs.Bytes.{ZerosBehind, text_long, text_and_zeros};
 
     ghost Value = { List ℕ };
 
     ghost view = { λ l. take l.len l.bytes };
 
-    ghost invariant = { λ l. l.len ≤ 96 };
+    ghost invariant = { λ l. ZerosBehind l.len l.bytes };
+
+    ghost inverse = { λ t. record { bytes = t ++ replicate (96 - length t) 0; len = length t } };
+
+    ghost inverse_ok = { λ l h i. record {
+      bytes = text_and_zeros l.len l.bytes h i;
+      len = text_long l.len l.bytes h i;
+    } };
 }
 
 impl Line {

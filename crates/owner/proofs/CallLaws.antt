@@ -9,7 +9,7 @@ use Rattle.rules.specs.Owner.{index_count, index_word}
 use Rattle.answers.{specs.Relocations.{sheet_initializations, query_refusal}, specs.Owner.{index_fault, index_refusal, index_after}, proofs.OwnerLaws.{index_given, refused_bytes}}
 use Rattle.by_start.specs.declared.KeptRegions.{KeptRegions}
 use Rattle.query.{specs.KeptFor.KeptFor, proofs.QueryLaws.{Stops, not_refused, else_stops, own_stops, own_passes}}
-use Rattle.owner.proofs.OwnerLaws.{count_found}
+use Rattle.owner.proofs.OwnerLaws.{kept_count}
 
 module _ (s : List ℕ) (given : ℕ) (b : List ℕ) where
   -- a refusal: the lent bytes are as they were
@@ -23,7 +23,7 @@ module _ (s : List ℕ) (given : ℕ) (b : List ℕ) where
   module _ {N M : ℕ} (kept : KeptRegions N M) (stands : KeptFor s given kept) (query : query_refusal limits s given ≡ no_refusal) (count : ℕ)
       (counted : count ≡ count_below kept.regions.count (λ e. matches given (get_or kept.regions.mask e 0))) where
     pub all : count ≡ index_count (sheet_initializations s) given
-    all = counted ∙ count_found s given kept stands
+    all = counted ∙ kept_count s given kept stands
 
     -- 37
     pub index_37 : (r : Refusal) → ltb (length b / 8) (3 * count) ≡ true → r ≡ refusal 37 0 0 → Stops r (index_refusal limits s given (length b))

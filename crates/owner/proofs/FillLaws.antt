@@ -6,7 +6,7 @@ use Rattle.sheet_headers.specs.Headers.{sheet_headers}
 use Rattle.rules.specs.Owner.{index_word}
 use Rattle.by_start.{specs.declared.KeptRegions.KeptRegions, specs.ByStart.{in_order, ByStart}, proofs.OwnerLaws.{Along, along_first, along_next}}
 use Rattle.query.specs.KeptFor.{KeptFor}
-use Rattle.owner.proofs.OwnerLaws.{words_of}
+use Rattle.owner.proofs.OwnerLaws.{kept_words}
 
 -- the region in place j + 1 is of the mask
 abbrev pub mask_in_place : {N M : ℕ} → KeptRegions N M → ℕ → ℕ → Bool
@@ -61,7 +61,7 @@ module _ {N M : ℕ} {kept : KeptRegions N M} {given : ℕ} {was words : List �
             ∙ filled.long;
         put =
             λ s stands.
-            let (x, y, w) = rw here at (words_of s given kept stands i l t k filled.count) in
+            let (x, y, w) = rw here at (kept_words s given kept stands i l t k filled.count) in
             let d : 3 * k + 1 + 1 ≡ 3 * k + 2 = omega arith in
             let g : 3 * k + 2 + 1 ≡ 3 * (k + 1) = omega arith in
             rw (

@@ -7,17 +7,12 @@ use Rattle.sheet.specs.Head.{limits}
 use Rattle.sheet_headers.specs.Headers.{sheet_headers}
 use Rattle.answers.proofs.AnswerLaws.{accepted_headers}
 use Rattle.reloc_regions.specs.{declared.RelocRegions.RelocRegions, Regions.entry}
-use Rattle.initialization_check.specs.Record.{HoldsRows}
+use Rattle.initialization_check.specs.Record.{HoldsRegions, HoldsRows}
 use Rattle.query.specs.KeptFor.{KeptFor}
 
--- after a query for a mask that is not refused
-module _ {N M : ℕ} (s : List ℕ) (given : ℕ) (kept : KeptRegions N M) (stands : KeptFor s given kept) where
-  abbrev f : Headers
-  f = sheet_headers s
-
-  abbrev held : RelocRegions N
-  held = kept.regions
-
+-- in an accepted file, whose regions are held, each with its row, and in order of start
+module _ {N : ℕ} (f : Headers) (held : RelocRegions N) (rows next : List ℕ) (given : ℕ) (accepted : NotRefused f) (nonzero : given ≢ 0) (regions : HoldsRegions held f.initializations)
+    (numbers : HoldsRows f.platforms.count rows held f.initializations) (by : ByStart next held.gpa held.count) where
   abbrev masks : List ℕ
   masks = held.mask
 
@@ -27,26 +22,8 @@ module _ {N M : ℕ} (s : List ℕ) (given : ℕ) (kept : KeptRegions N M) (stan
   abbrev sizes : List ℕ
   sizes = held.size
 
-  abbrev rows : List ℕ
-  rows = kept.rows
-
-  abbrev next : List ℕ
-  next = kept.order.next
-
   abbrev n : ℕ
   n = held.count
-
-  abbrev accepted : NotRefused f
-  accepted = accepted_headers limits s stands.accepted
-
-  abbrev nonzero : given ≢ 0
-  nonzero = stands.nonzero
-
-  abbrev numbers : HoldsRows f.platforms.count rows held f.initializations
-  numbers = stands.regions.rows
-
-  abbrev by : ByStart next gpas n
-  by = stands.regions.order
 
   -- the region in place k + 1, from 0
   abbrev at : ℕ → ℕ
@@ -62,7 +39,7 @@ module _ {N M : ℕ} (s : List ℕ) (given : ℕ) (kept : KeptRegions N M) (stan
   owner_found gpa = go (first_below n (owns_in_place masks gpas sizes next given gpa)) refl
     where
       none_owns : any_below n (owned masks gpas sizes given gpa) ≡ false → any (region_passes (owns_address given gpa)) f.initializations ≡ false
-      none_owns e = sym (stands.regions.regions.same (owns_address given gpa)) ∙ e
+      none_owns e = sym (regions.same (owns_address given gpa)) ∙ e
 
       go : (o : Option ℕ) → first_below n (owns_in_place masks gpas sizes next given gpa) ≡ o → owned_row masks gpas sizes rows next n given gpa ≡ owner_of f given gpa
       go none e =
@@ -164,3 +141,23 @@ module _ {N M : ℕ} (s : List ℕ) (given : ℕ) (kept : KeptRegions N M) (stan
   pub count_found : count_below n of_mask ≡ index_count f.initializations given
   unfolding index_count
   count_found = numbers.counts (is_of_mask given)
+
+-- ---- after a query for a mask that is not refused, of the sheet's regions
+
+module _ {N M : ℕ} (s : List ℕ) (given : ℕ) (kept : KeptRegions N M) (stands : KeptFor s given kept) where
+  abbrev headers : NotRefused (sheet_headers s)
+  headers = accepted_headers limits s stands.accepted
+
+  pub kept_owner : (gpa : ℕ) → owned_row kept.regions.mask kept.regions.gpa kept.regions.size kept.rows kept.order.next kept.regions.count given gpa ≡ owner_of (sheet_headers s) given gpa
+  kept_owner gpa = owner_found (sheet_headers s) kept.regions kept.rows kept.order.next given headers stands.nonzero stands.regions.regions stands.regions.rows stands.regions.order gpa
+
+  -- the region in place k + 1
+  pub kept_words : (k : ℕ) → k < kept.regions.count → matches given (get_or kept.regions.mask (in_order kept.order.next (k + 1) - 1) 0) ≡ true
+      → (c : ℕ) → c ≡ count_below k (λ j. matches given (get_or kept.regions.mask (in_order kept.order.next (j + 1) - 1) 0))
+      → (index_word (sheet_headers s) given (3 * c) ≡ get_or kept.regions.gpa (in_order kept.order.next (k + 1) - 1) 0)
+      × (index_word (sheet_headers s) given (3 * c + 1) ≡ get_or kept.regions.size (in_order kept.order.next (k + 1) - 1) 0)
+      × (index_word (sheet_headers s) given (3 * c + 2) ≡ get_or kept.rows (in_order kept.order.next (k + 1) - 1) 0)
+  kept_words = words_of (sheet_headers s) kept.regions kept.rows kept.order.next given headers stands.nonzero stands.regions.regions stands.regions.rows stands.regions.order
+
+  pub kept_count : count_below kept.regions.count (λ e. matches given (get_or kept.regions.mask e 0)) ≡ index_count (sheet_headers s).initializations given
+  kept_count = count_found (sheet_headers s) kept.regions kept.rows kept.order.next given headers stands.nonzero stands.regions.regions stands.regions.rows stands.regions.order

@@ -29,7 +29,7 @@ fn owner_in<const N: usize, const M: usize>(
     gpa: u64,
 ) -> Result<u64, Refusal>
     requires s_value { (is_fault (start_fault limits s.now) ≡ false) × (head ≡ head_of s.now) }
-    requires room { (head.initializations ≤ N) × (N < M) × (M ≤ 65) }
+    requires room { (head.initializations ≤ N) × (head.initializations < M) × (N ≤ 64) × (M ≤ 65) }
     ensures { Passes result (query_refusal limits s.now given) (λ row. row ≡ owner_of (sheet_headers s.now) given gpa) }
 {
     let mut kept: KeptRegions<N, M> = KeptRegions::new();
@@ -116,7 +116,7 @@ fn index_in<const N: usize, const M: usize>(
     words: &mut [u8],
 ) -> Result<u64, Refusal>
     requires s_value { (is_fault (start_fault limits s.now) ≡ false) × (head ≡ head_of s.now) }
-    requires room { (head.initializations ≤ N) × (N < M) × (M ≤ 65) }
+    requires room { (head.initializations ≤ N) × (head.initializations < M) × (N ≤ 64) × (M ≤ 65) }
     ensures value { Passes result (index_refusal limits s.now given (length words.old)) (λ n. n ≡ index_count (sheet_initializations s.now) given) }
     ensures words_after { words.new ≡ index_after limits s.now given words.old }
 {

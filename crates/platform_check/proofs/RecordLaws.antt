@@ -1,5 +1,5 @@
 -- The record of platform rows answers for the rows that it holds.
-use Rattle.rows.{proofs.Kit.{◌≡◌, refl, sym, ap, ◌∙◌, Bool, List, ◌⊎◌, inl, inr, Option, none, some, ℕ, suc, ◌+◌, ◌≤◌, ◌<◌, arith, eqb, length, get_or, set, get_or-set_same, get_or-set_other}, specs.Below.{any_below, last_below}, specs.Rows.{Rows, any, row_at, more}, proofs.BelowLaws.{top, any_same_tests, last_same_tests, last_says}, proofs.SameLaws.{more_last, more_row}}
+use Rattle.rows.{proofs.Kit.{◌≡◌, refl, sym, ap, ◌∙◌, Bool, true, false, List, ◌⊎◌, inl, inr, Option, none, some, ℕ, suc, ◌+◌, ◌≤◌, ◌<◌, add-one, arith, eqb, eqb-true, length, get_or, set, get_or-set_same, get_or-set_other}, specs.Below.{any_below, last_below}, specs.Rows.{Rows, any, row_at, before, more}, proofs.Bools.which, proofs.BelowLaws.{top, any_same_tests, last_same_tests, last_says}, proofs.SameLaws.{more_last, more_row}}
 use Rattle.platform_header.specs.declared.IgvmPlatformHeader.{IgvmPlatformHeader}
 use Rattle.rules.{specs.Options.passes, specs.Platforms.{same_type, is_cca, last_is_cca}}
 use Rattle.platform_check.specs.{declared.Platforms.Platforms, Record.{HoldsPlatforms, last_type_is_cca}}
@@ -60,3 +60,15 @@ holds_more r xs h room lm lt held =
       mask = rw e (stored r.mask xs.count h.compatibility_mask (λ j. ((more xs h).row j).compatibility_mask) (omega arith) (rw (more_last xs h)) (λ j l. rw (more_row xs h j l) (held.mask j l)));
       type = rw e (stored r.types xs.count h.platform_type (λ j. ((more xs h).row j).platform_type) (omega arith) (rw (more_last xs h)) (λ j l. rw (more_row xs h j l) (held.type j l)));
     }
+
+-- the rows before row i and row i are the rows before row i + 1
+pub before_next : (xs : Rows IgvmPlatformHeader) (i : ℕ) (h : IgvmPlatformHeader) → h ≡ xs.row i → (j : ℕ) → (more (before i xs) h).row j ≡ xs.row j
+before_next xs i h e j = go (which (eqb j i))
+  where
+    go : (eqb j i ≡ true) ⊎ (eqb j i ≡ false) → (more (before i xs) h).row j ≡ xs.row j
+    go (inl t) = rw (t, e, eqb-true j i t)
+    go (inr f) = rw f
+
+-- so a record that holds row i behind the rows before it holds the rows before row i + 1
+pub holds_next : (r : Platforms) (xs : Rows IgvmPlatformHeader) (i : ℕ) (h : IgvmPlatformHeader) → h ≡ xs.row i → HoldsPlatforms r (more (before i xs) h) → HoldsPlatforms r (before (i + 1) xs)
+holds_next r xs i h e held = holds_same r (more (before i xs) h) (before (i + 1) xs) (sym (add-one i)) (λ j _. before_next xs i h e j) held

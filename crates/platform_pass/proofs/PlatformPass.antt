@@ -3,21 +3,13 @@ use mir.Val.{bool_byte}
 use Rattle.std.specs.Prelude.{Result, Ok, Err, MatchResult}
 use Rattle.std.specs.Result.{is_ok}
 use Rattle.rows.{proofs.Kit.{◌≡◌, refl, sym, ap, ◌∙◌, Bool, true, false, not, false≢true, List, ◌⊎◌, inl, inr, ℕ, ◌+◌, ◌*◌, ◌≤◌, ◌<◌, add-one, zero-add, add_assoc, arith, eqb, eqb-true, length}, proofs.Bools.{which, not_both, byte_count}, specs.Below.{sum_below, count_below}, specs.Rows.{Rows, before, more}, proofs.BelowLaws.{count_more, count_le}}
-use Rattle.igvm_defs.{specs.declared.Arch.Arch, specs.declared.Fault.Fault, specs.declared.Refusal.Refusal, specs.Kinds.platform_list, specs.Refusals.{fault, no_fault, refuse, is_fault, is_refusal, in_row}, proofs.RefusalLaws.{row_refusal_lem, none_else, or_else_first}}
+use Rattle.igvm_defs.{specs.declared.Arch.Arch, specs.declared.Fault.Fault, specs.declared.Refusal.Refusal, specs.Kinds.platform_list, specs.Refusals.{fault, no_fault, no_refusal, refuse, is_fault, is_refusal, in_row, first_fault}, proofs.RefusalLaws.{row_refusal_lem, none_else, or_else_first}}
 use Rattle.lent.{specs.Lent.{word_put, words_put}, proofs.LentLaws.{words_none, words_more, words_length}}
 use Rattle.sheet.{specs.declared.Cursor.Cursor, specs.Head.{limits, head_of}, specs.Table.{row_kind, body_of}, specs.Read.Readable, specs.Walk.cursor_at, proofs.Readable.readable_bounds}
 use Rattle.platform_header.{specs.declared.IgvmPlatformHeader.IgvmPlatformHeader, specs.Platforms.platform_of}
 use Rattle.sheet_headers.{specs.Headers.sheet_headers, proofs.HeaderLaws.sheet_counts, proofs.ListLaws.{AtList, at_platform, platform_header, RowsReached, rows_next, rows_stop, rows_end}}
 use Rattle.rules.{specs.Platforms.platform_fault, specs.Verdict.{platform_faults, no_platform, platforms_refusal}, specs.Kept.kept_below, specs.Report.{platform_report, kept_platforms, faulty_platforms, report_word}, proofs.{KeptLaws.{kept_count, kept_next}, ReportLaws.platform_word}}
-use Rattle.platform_check.{specs.declared.Platforms.Platforms, specs.Record.HoldsPlatforms, proofs.RecordLaws.holds_same}
-
--- the rows before row i and row i are the rows before row i + 1
-before_next : (xs : Rows IgvmPlatformHeader) (i : ℕ) (h : IgvmPlatformHeader) → h ≡ xs.row i → (j : ℕ) → (more (before i xs) h).row j ≡ xs.row j
-before_next xs i h e j = go (which (eqb j i))
-  where
-    go : (eqb j i ≡ true) ⊎ (eqb j i ≡ false) → (more (before i xs) h).row j ≡ xs.row j
-    go (inl t) = rw (t, e, eqb-true j i t)
-    go (inr f) = rw f
+use Rattle.platform_check.{specs.declared.Platforms.Platforms, specs.Record.HoldsPlatforms, proofs.RecordLaws.holds_next}
 
 -- what holds where an answer is Ok
 pub where_ok : {T E : Type 0} (r : Result T E) (P : T → Type 0) (Q : E → Type 0) → true ≡ is_ok r → MatchResult r P Q → (x : T) × P x
@@ -61,29 +53,37 @@ module _ {s : List ℕ} {n : ℕ} {a : Arch} {c : Cursor} {p : Platforms} {i : �
         rows = r.rows;
         arch = r.arch;
         reached = rows_next s 0 n (platform_faults (sheet_headers s)) c next i r.reached l (rw (← platform_faults_at h e, none)) at;
-        holds = holds_same q (more (before i xs) h) (before (i + 1) xs) (sym (add-one i)) (λ j _. before_next xs i h (platform_row h e) j) held;
+        holds = holds_next q xs i h (platform_row h e) held;
       }
 
   -- row i has one
   pub platforms_stop : (h : IgvmPlatformHeader) (t : Refusal) → h ≡ platform_of (row_kind s c.row) (body_of s c.row) → i < n
       → t ≡ in_row (i + 1) (platform_fault a (before i (sheet_headers s).platforms) h) → is_fault (platform_fault a (before i (sheet_headers s).platforms) h) ≡ true
-      → (t ≡ platforms_refusal (sheet_headers s)) × (is_refusal (platforms_refusal (sheet_headers s)) ≡ true)
-  unfolding platforms_refusal
+      → (t ≡ first_fault 0 (head_of s).platforms (platform_faults (sheet_headers s))) × (is_refusal (first_fault 0 (head_of s).platforms (platform_faults (sheet_headers s))) ≡ true)
   platforms_stop h t e l is fault =
-      let z : (sheet_headers s).platforms.count ≡ n = (sheet_counts s).platforms ∙ sym r.rows in
       let at = platform_faults_at h e in
       let refuses : is_refusal t ≡ true = rw (is, row_refusal_lem) fault in
-      let same : platforms_refusal (sheet_headers s) ≡ t =
-      rw (z, rows_stop s 0 n (platform_faults (sheet_headers s)) c i r.reached l (rw at at fault), zero-add, ← at, ← is) (or_else_first t _ refuses) in
+      let same : first_fault 0 (head_of s).platforms (platform_faults (sheet_headers s)) ≡ t =
+      rw (← r.rows, rows_stop s 0 n (platform_faults (sheet_headers s)) c i r.reached l (rw at at fault), zero-add, ← at, ← is) refl in
       (sym same, rw same refuses)
 
-  -- behind the last row 15 is left
-  pub platforms_end : n ≤ i → (platforms_refusal (sheet_headers s) ≡ in_row 0 (refuse (eqb n 0) (fault 15 0) no_fault)) × HoldsPlatforms p (sheet_headers s).platforms
-  unfolding platforms_refusal no_platform
+  -- every row passed
+  pub platforms_end : n ≤ i → (first_fault 0 (head_of s).platforms (platform_faults (sheet_headers s)) ≡ no_refusal) × HoldsPlatforms p (sheet_headers s).platforms
   platforms_end l =
-      let z : (sheet_headers s).platforms.count ≡ n = (sheet_counts s).platforms ∙ sym r.rows in
       let (e, none) = rows_end s 0 n (platform_faults (sheet_headers s)) c i r.reached l in
-      (rw (z, none, none_else), rw (e ∙ sym z) at r.holds)
+      (rw (← r.rows, none) refl, rw (e ∙ r.rows ∙ sym (sheet_counts s).platforms) at r.holds)
+
+-- the rows' first fault comes before 15
+pub platforms_first : (s : List ℕ) → is_refusal (first_fault 0 (head_of s).platforms (platform_faults (sheet_headers s))) ≡ true
+    → platforms_refusal (sheet_headers s) ≡ first_fault 0 (head_of s).platforms (platform_faults (sheet_headers s))
+unfolding platforms_refusal
+platforms_first s refuses = rw (sheet_counts s).platforms (or_else_first _ _ refuses)
+
+-- where no row has a fault 15 is left
+pub platforms_last : (s : List ℕ) → first_fault 0 (head_of s).platforms (platform_faults (sheet_headers s)) ≡ no_refusal
+    → platforms_refusal (sheet_headers s) ≡ in_row 0 (refuse (eqb (head_of s).platforms 0) (fault 15 0) no_fault)
+unfolding platforms_refusal no_platform
+platforms_last s none = rw ((sheet_counts s).platforms, none, none_else) refl
 
 -- ---- the report
 

@@ -2,11 +2,11 @@
 #![tactic(auto)]
 
 ghost use Rattle.std.specs.Prelude.{◌≡◌, ◌+◌, ◌*◌, ◌≤◌, length};
-ghost use Rattle.igvm_defs.specs.Refusals.{Passes};
+ghost use Rattle.igvm_defs.specs.Refusals.{first_fault, Passes};
 ghost use Rattle.lent.specs.Lent.{words_put};
 ghost use Rattle.sheet.specs.Head.{head_of};
 ghost use Rattle.sheet_headers.specs.Headers.{sheet_headers};
-ghost use Rattle.rules.specs.Verdict.{platforms_refusal};
+ghost use Rattle.rules.specs.Verdict.{platform_faults, platforms_refusal};
 ghost use Rattle.rules.specs.Report.{kept_platforms, faulty_platforms, report_word};
 ghost use Rattle.platform_check.specs.Record.{HoldsPlatforms};
 
@@ -15,9 +15,9 @@ use platform_check::Platforms;
 use platform_header::IgvmPlatformHeader;
 use sheet::{Cursor, ReadableSheet};
 
-// 8 to 14 of each platform row, then 15.
-pub fn validate_platform_headers(s: &ReadableSheet<'_>) -> Result<Platforms, Refusal>
-    ensures { Passes result (platforms_refusal (sheet_headers s.now.bytes.now)) (λ r. HoldsPlatforms r (sheet_headers s.now.bytes.now).platforms) }
+// 8 to 14 of each platform row.
+pub fn platform_rows(s: &ReadableSheet<'_>) -> Result<Platforms, Refusal>
+    ensures { Passes result (first_fault 0 (head_of s.now.bytes.now).platforms (platform_faults (sheet_headers s.now.bytes.now))) (λ r. HoldsPlatforms r (sheet_headers s.now.bytes.now).platforms) }
 {
     let arch = s.head.revision().arch();
     let n = s.head.platforms as usize;
@@ -31,6 +31,15 @@ pub fn validate_platform_headers(s: &ReadableSheet<'_>) -> Result<Platforms, Ref
             .map_err(|fault| fault.in_row(number))?;
         c = row.next;
     }
+    Ok(platforms)
+}
+
+// 8 to 14 of each platform row, then 15.
+pub fn validate_platform_headers(s: &ReadableSheet<'_>) -> Result<Platforms, Refusal>
+    ensures { Passes result (platforms_refusal (sheet_headers s.now.bytes.now)) (λ r. HoldsPlatforms r (sheet_headers s.now.bytes.now).platforms) }
+{
+    let platforms = platform_rows(s)?;
+    let n = s.head.platforms;
     igvm_defs::refuse_if(n == 0, 15, 0).map_err(|fault| fault.in_row(0))?;
     Ok(platforms)
 }

@@ -1,6 +1,6 @@
 -- What refuses a query, and what stands where nothing does; and a call's answer by a number.
 use lib.Dec.{eqb-suc-zero}
-use Rattle.rows.proofs.Kit.{Bool, suc, ◌≡◌, refl, sym, ap, ◌∙◌, true, false, ◌≢◌, List, ℕ, ◌≤◌, arith, eqb, eqb-false}
+use Rattle.rows.proofs.Kit.{Bool, suc, ◌≡◌, refl, sym, ap, ◌∙◌, true, false, ◌≢◌, List, ℕ, ◌≤◌, ◌<◌, arith, eqb, eqb-false}
 use Rattle.std.specs.Prelude.{Result, Ok, Err, MatchResult, ⊤}
 use Rattle.std.specs.Result.{IsErrAnd}
 use Rattle.igvm_defs.{specs.declared.Refusal.Refusal, specs.declared.Fault.Fault, specs.Refusals.{refusal, no_refusal, fault, no_fault, refuse, is_fault, is_refusal, in_row, or_else, Passes}, proofs.RefusalLaws.{or_else_first, or_else_later, row_refusal_lem}, proofs.AnswerLaws.thrown}
@@ -44,9 +44,9 @@ module _ (s : List ℕ) (given : ℕ) where
 
   -- what is kept
   pub kept_for : {N M : ℕ} (kept : KeptRegions N M) (contexts : List ℕ) → verdict_refusal limits s ≡ no_refusal → given ≢ 0
-      → Kept s kept.regions kept.rows kept.order.next contexts → (head_of s).initializations ≤ N → KeptFor s given kept
+      → Kept s kept.regions kept.rows kept.order.next contexts → (head_of s).initializations ≤ N → (head_of s).initializations < M → KeptFor s given kept
   unfolding sheet_headers
-  kept_for kept contexts v n k h =
+  kept_for kept contexts v n k h p =
       let b = readable_bounds s (accepted_readable limits s (not_refused _ v)) in
       let few = k.regions.count in
       record {
@@ -54,6 +54,7 @@ module _ (s : List ℕ) (given : ℕ) where
         nonzero = n;
         regions = record { regions = k.regions; rows = rw (sheet_counts s).platforms k.rows; order = k.order };
         few = omega arith;
+        places = omega arith;
         most = omega (arith, b.initializations);
       }
 

@@ -1,5 +1,5 @@
 -- What stands after a query's verdict, where neither it nor the mask is refused.
-use Rattle.std.specs.Prelude.{ℕ, ◌≤◌, ◌≡◌, false, List, ◌≢◌}
+use Rattle.std.specs.Prelude.{ℕ, ◌≤◌, ◌<◌, ◌≡◌, false, List, ◌≢◌}
 use Rattle.igvm_defs.specs.Refusals.{is_refusal}
 use Rattle.sheet.specs.Head.{limits, initialization_rows}
 use Rattle.sheet_headers.specs.Headers.{sheet_headers}
@@ -13,4 +13,5 @@ pub record KeptFor {N M : ℕ} (s : List ℕ) (given : ℕ) (kept : KeptRegions 
   pub nonzero : given ≢ 0
   pub regions : KeptOf (sheet_headers s).platforms.count kept (sheet_headers s).initializations
   pub few : kept.regions.count ≤ N
+  pub places : kept.regions.count < M
   pub most : kept.regions.count ≤ initialization_rows

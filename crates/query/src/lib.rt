@@ -68,7 +68,7 @@ pub fn keep_for<const N: usize, const M: usize>(
     kept: &mut KeptRegions<N, M>,
 ) -> Result<(), Refusal>
     requires s_value { (is_fault (start_fault limits s.now) ≡ false) × (head ≡ head_of s.now) }
-    requires room { (head.initializations ≤ N) × (N < M) }
+    requires room { (head.initializations ≤ N) × (head.initializations < M) }
     ensures { Passes result (query_refusal limits s.now given) (λ _. KeptFor s.now given kept.new) }
 {
     let mut contexts: [u32; 3] = [0; 3];
@@ -82,7 +82,7 @@ fn accepted_in<'a, const N: usize, const M: usize>(
     given: u32,
 ) -> Result<ReadableSheet<'a>, Refusal>
     requires s_value { (is_fault (start_fault limits s.now) ≡ false) × (head ≡ head_of s.now) }
-    requires room { (head.initializations ≤ N) × (N < M) × (M ≤ 65) }
+    requires room { (head.initializations ≤ N) × (head.initializations < M) × (N ≤ 64) × (M ≤ 65) }
     ensures { Passes result (query_refusal limits s.now given) (λ sheet. sheet.bytes.now ≡ s.now) }
 {
     let mut kept: KeptRegions<N, M> = KeptRegions::new();

@@ -1,2 +1,3 @@
 mod WordLaws
+mod TableLaws
 mod WalkLaws

@@ -1,19 +1,20 @@
 // The words of a mask's regions in lent bytes, in header order, and its page-table region, in one walk over the initialization rows.
 #![tactic(auto)]
 
-ghost use Rattle.std.specs.Prelude.{◌≡◌, true, cond, ◌&&◌, ◌+◌, ◌*◌, ◌≤◌, is_none, length};
+ghost use Rattle.std.specs.Prelude.{◌≡◌, true, cond, ◌&&◌, ◌+◌, ◌*◌, ◌≤◌, ◌<◌, is_none, length, Some, MatchOption, ⊤};
 ghost use Rattle.rows.specs.Answered.{option_of};
 ghost use Rattle.le.specs.Le.{byte_at};
 ghost use Rattle.igvm_defs.specs.Kinds.{kind_of, initialization_list};
 ghost use Rattle.sheet.specs.Head.{initialization_rows, limits, head_of};
+ghost use Rattle.sheet.specs.Table.{row_kind, body_of};
 ghost use Rattle.sheet.specs.Read.{codes_ok};
 ghost use Rattle.initialization_header.specs.Initializations.{initialization_of, relocatable_region_of};
+ghost use Rattle.rules.specs.Options.{then};
 ghost use Rattle.rules.specs.Relocations.{is_relocatable, is_page_table, relocatable_of, page_table_of, region_count, region_at, page_table_at};
 ghost use Rattle.lent.specs.Lent.{row_put, rows_put};
 ghost use Rattle.answers.specs.Relocations.{sheet_initializations, region_words};
 ghost use Rattle.region_words.specs.Puts.{Puts};
 
-use header::Header;
 use initialization_header::IgvmInitializationHeader;
 use rules::PageTableRegion;
 use sheet::ReadableSheet;
@@ -73,23 +74,33 @@ fn put_region(given: u32, kind: u32, b: &[u8], n: usize, words: &mut [u8]) -> us
     n
 }
 
-// The page table that was found, else the row's, where it is one of the mask.
-fn first_table(
-    given: u32,
-    kind: u32,
-    b: &[u8],
-    found: Option<PageTableRegion>,
-) -> Option<PageTableRegion>
+// The row of the mask's page table that was found, else this row, where it is one.
+fn first_table(given: u32, kind: u32, b: &[u8], row: usize, found: Option<usize>) -> Option<usize>
     requires { ((kind_of kind).list ≡ initialization_list) × ((kind_of kind).least ≤ length b.now) }
-    ensures { option_of result ≡ cond (is_none found && is_page_table given (initialization_of kind b.now)) (page_table_of (initialization_of kind b.now)) (option_of found) }
+    ensures { result ≡ cond (is_none found && is_page_table given (initialization_of kind b.now)) (Some row) found }
 {
     if found.is_none() & is_table(given, kind, b) {
-        return regions::page_table_of(IgvmInitializationHeader::decode(kind, b));
+        return Some(row);
     }
     found
 }
 
 // ---- over the initialization rows of a readable sheet
+
+// The page table of a row that was found.
+fn found_table(s: &ReadableSheet<'_>, found: Option<usize>) -> Option<PageTableRegion>
+    requires { MatchOption found ⊤ (λ row. ((head_of s.now.bytes.now).platforms ≤ row) × (row < (head_of s.now.bytes.now).platforms + (head_of s.now.bytes.now).initializations)) }
+    ensures { option_of result ≡ then (option_of found) (λ row. page_table_of (initialization_of (row_kind s.now.bytes.now row) (body_of s.now.bytes.now row))) }
+{
+    match found {
+        Some(row) => {
+            let c = sheet_reader::cursor_at(s, row);
+            let at = sheet_headers::header_at::<IgvmInitializationHeader>(s.bytes, c);
+            regions::page_table_of(at.header)
+        }
+        None => None,
+    }
+}
 
 // How many regions were put, and the page-table region.
 #[derive(Clone, Copy)]
@@ -105,16 +116,19 @@ fn collect(s: &ReadableSheet<'_>, given: u32, words: &mut [u8]) -> PutRegions
     ensures words_after { words.new ≡ rows_put (region_count (sheet_initializations s.now.bytes.now) given) (λ n. region_words (region_at (sheet_initializations s.now.bytes.now) given n)) words.old }
 {
     let mut c = sheet_reader::cursor_at(s, s.head.platforms as usize);
-    let mut table: Option<PageTableRegion> = None;
+    let mut found: Option<usize> = None;
     let mut count: usize = 0;
     for _ in 0..s.head.initializations {
         let row = sheet_reader::cursor_row(s.bytes, c);
         let b = sheet_reader::cursor_body(s.bytes, c);
-        table = first_table(given, row.kind, b, table);
+        found = first_table(given, row.kind, b, c.row, found);
         count = put_region(given, row.kind, b, count, words);
         c = row.next;
     }
-    PutRegions { table, count }
+    PutRegions {
+        table: found_table(s, found),
+        count,
+    }
 }
 
 // Puts the words of the mask's regions into the lent bytes, all at once, where eight words are lent for each. They are collected in BYTES bytes of its own.
@@ -136,7 +150,11 @@ fn put_through<const BYTES: usize>(
 }
 
 // By the number of initialization rows the words are collected in 4, 16 or 64 rows: fewer take less time to clear.
-pub fn put_regions(s: &ReadableSheet<'_>, given: u32, words: &mut [u8]) -> Option<PutRegions>
+pub fn put_regions_if_room(
+    s: &ReadableSheet<'_>,
+    given: u32,
+    words: &mut [u8],
+) -> Option<PutRegions>
     ensures { Puts (sheet_initializations s.now.bytes.now) given words.old result words.new }
 {
     match s.head.initializations {
@@ -144,4 +162,13 @@ pub fn put_regions(s: &ReadableSheet<'_>, given: u32, words: &mut [u8]) -> Optio
         5..=16 => put_through::<1024>(s, given, words),
         _ => put_through::<4096>(s, given, words),
     }
+}
+
+// Puts the words of the mask's regions into the lent bytes, all at once. Eight words are lent for each.
+pub fn put_regions(s: &ReadableSheet<'_>, given: u32, words: &mut [u8]) -> PutRegions
+    requires { 64 * region_count (sheet_initializations s.now.bytes.now) given ≤ length words.old }
+    ensures table_value { (option_of result.table ≡ page_table_at (sheet_initializations s.now.bytes.now) given) × (result.count ≡ region_count (sheet_initializations s.now.bytes.now) given) }
+    ensures words_after { words.new ≡ rows_put (region_count (sheet_initializations s.now.bytes.now) given) (λ n. region_words (region_at (sheet_initializations s.now.bytes.now) given n)) words.old }
+{
+    put_regions_if_room(s, given, words).unwrap()
 }

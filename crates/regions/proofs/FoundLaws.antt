@@ -25,7 +25,7 @@ module _ {H A : Type 0} (p : H → Bool) (of : H → Option A) (xs : Rows H) whe
 -- ---- initialization rows
 
 -- a page table of the mask is found
-table_is_found : (given : ℕ) (h : IgvmInitializationHeader) → is_page_table given h ≡ true → is_there (page_table_of h) ≡ true
+pub table_is_found : (given : ℕ) (h : IgvmInitializationHeader) → is_page_table given h ≡ true → is_there (page_table_of h) ≡ true
 table_is_found given (GuestPolicy a b) e = e
 table_is_found given (CcaPolicy a b c) e = e
 table_is_found given (RelocatableRegion a b c d e f g h i j k) t = t

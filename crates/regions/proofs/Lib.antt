@@ -1,3 +1,4 @@
 pub mod HeaderLaws
 pub mod FoundLaws
 pub mod TurnLaws
+pub mod CountLaws

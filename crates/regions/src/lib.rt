@@ -1,13 +1,16 @@
-// The regions of a mask, each by its number among the initialization rows.
+// The regions of a mask: how many an accepted file has, and each by its number among the initialization rows.
 #![tactic(auto)]
 
-ghost use Rattle.std.specs.Prelude.{◌≡◌, cond, ◌≤◌};
+ghost use Rattle.std.specs.Prelude.{◌≡◌, false, not, cond, ◌&&◌, ◌≤◌, ◌<◌, get_or};
+ghost use Rattle.rows.specs.Below.{count_below};
 ghost use Rattle.rows.specs.Answered.{option_of};
-ghost use Rattle.sheet.specs.Head.{limits, head_of};
+ghost use Rattle.masks.specs.Masks.{matches};
+ghost use Rattle.sheet.specs.Head.{initialization_rows, limits, head_of};
 ghost use Rattle.rules.specs.Relocations.{is_relocatable, relocatable_of, page_table_of, region_at};
 ghost use Rattle.answers.specs.Relocations.{sheet_initializations};
 
 use initialization_header::IgvmInitializationHeader;
+use reloc_regions::RelocRegions;
 use rules::{IgvmRelocatableRegion, PageTableRegion};
 use sheet::ReadableSheet;
 
@@ -24,6 +27,14 @@ pub fn is_relocatable(given: u32, h: IgvmInitializationHeader) -> bool
         _ => false,
     }
 }
+
+pub const NO_PAGE_TABLE: PageTableRegion = PageTableRegion {
+    gpa: 0,
+    size: 0,
+    used_size: 0,
+    vp_index: 0,
+    vtl: 0,
+};
 
 fn one_if(test: bool, n: u64) -> u64
     requires { n ≤ 4 }
@@ -85,6 +96,42 @@ pub fn page_table_of(h: IgvmInitializationHeader) -> Option<PageTableRegion>
         }),
         _ => None,
     }
+}
+
+// ---- over the regions kept of an accepted file
+
+fn one(test: bool) -> usize
+    ensures { (result ≡ cond test 1 0) × (result ≤ 1) }
+{
+    if test {
+        return 1;
+    }
+    0
+}
+
+// How many of the regions are regions of the mask: no page table, and with every bit of the mask.
+fn count_in<const N: usize>(kept: &RelocRegions<N>, given: u32) -> usize
+    requires { (kept.now.count ≤ N) × (kept.now.count ≤ initialization_rows) }
+    ensures { (result ≡ count_below kept.now.count (λ e. matches given (get_or kept.now.mask e 0) && not (get_or kept.now.page_table e false))) × (result ≤ initialization_rows) }
+{
+    let mut count: usize = 0;
+    for i in 0..kept.count {
+        count += one(masks::matches(given, kept.mask[i]) & !kept.page_table[i]);
+    }
+    count
+}
+
+// The same count, or that of all regions where there is room for all: at least the count, and the count itself where it is more than the room.
+pub fn count_within<const N: usize>(kept: &RelocRegions<N>, given: u32, room: usize) -> usize
+    requires { (kept.now.count ≤ N) × (kept.now.count ≤ initialization_rows) }
+    ensures lower_bound { count_below kept.now.count (λ e. matches given (get_or kept.now.mask e 0) && not (get_or kept.now.page_table e false)) ≤ result }
+    ensures value { room < result → result ≡ count_below kept.now.count (λ e. matches given (get_or kept.now.mask e 0) && not (get_or kept.now.page_table e false)) }
+    ensures upper_bound { result ≤ initialization_rows }
+{
+    if kept.count <= room {
+        return kept.count;
+    }
+    count_in(kept, given)
 }
 
 // ---- over the initialization rows of a readable sheet

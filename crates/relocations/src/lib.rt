@@ -1,19 +1,62 @@
 // The relocation query and the checks on one region, from any byte string.
 #![tactic(auto)]
 
-ghost use Rattle.std.specs.Prelude.{◌≡◌, length};
+ghost use Rattle.std.specs.Prelude.{◌≡◌, false, ◌≤◌, ◌<◌, length};
 ghost use Rattle.std.proofs.Math.Option.{some};
 ghost use Rattle.rows.specs.Answered.{option_of};
-ghost use Rattle.igvm_defs.specs.Refusals.{Passes};
-ghost use Rattle.sheet.specs.Head.{limits};
+ghost use Rattle.igvm_defs.specs.Refusals.{is_fault, Passes};
+ghost use Rattle.sheet.specs.Head.{initialization_rows, limits, head_of, start_fault};
 ghost use Rattle.rules.specs.Relocations.{region_count, region_at, page_table_at};
-ghost use Rattle.answers.specs.Relocations.{sheet_initializations, found_of, relocations_refusal, relocations_of, words_after, check_refusal, answer_for, base_number, base_check_of, contains_of};
+ghost use Rattle.answers.specs.Relocations.{sheet_initializations, query_refusal, found_of, relocations_refusal, relocations_of, words_after, check_refusal, answer_for, base_number, base_check_of, contains_of};
 ghost use Rattle.answers.specs.BaseRanges.{range_refusal, base_range_number, base_range_of};
 
 use answers::{Answered, Checked, Relocations};
+use by_start::KeptRegions;
 use igvm_defs::Refusal;
 use region_words::PutRegions;
 use rules::{IgvmRelocatableRegion, PageTableRegion};
+use sheet::{ReadableSheet, SheetHead};
+
+// ---- the room for the region list
+
+// Of an accepted sheet, where the mask is not 0, a count no less than the mask's regions, and just theirs where it is more than the room; or the verdict's refusal, or 35.
+fn counted_in<const N: usize, const M: usize>(
+    s: &[u8],
+    head: SheetHead,
+    given: u32,
+    room: usize,
+) -> Result<usize, Refusal>
+    requires s_value { (is_fault (start_fault limits s.now) ≡ false) × (head ≡ head_of s.now) }
+    requires places { (head.initializations ≤ N) × (head.initializations < M) × (N ≤ 64) × (M ≤ 65) }
+    ensures { Passes result (query_refusal limits s.now given) (λ count. (count ≤ initialization_rows) × (region_count (sheet_initializations s.now) given ≤ count) × (room < count → count ≡ region_count (sheet_initializations s.now) given)) }
+{
+    let mut kept: KeptRegions<N, M> = KeptRegions::new();
+    query::keep_for(s, head, given, &mut kept)?;
+    Ok(regions::count_within(&kept.regions, given, room))
+}
+
+// Up to four initialization rows small arrays take less time to clear.
+fn counted(s: &[u8], head: SheetHead, given: u32, room: usize) -> Result<usize, Refusal>
+    requires { (is_fault (start_fault limits s.now) ≡ false) × (head ≡ head_of s.now) × (head.initializations ≤ initialization_rows) }
+    ensures { Passes result (query_refusal limits s.now given) (λ count. (count ≤ initialization_rows) × (region_count (sheet_initializations s.now) given ≤ count) × (room < count → count ≡ region_count (sheet_initializations s.now) given)) }
+{
+    if head.initializations <= 4 {
+        return counted_in::<4, 5>(s, head, given, room);
+    }
+    counted_in::<{ SheetHead::INITIALIZATION_ROWS }, { SheetHead::INITIALIZATION_PLACES }>(
+        s, head, given, room,
+    )
+}
+
+// An accepted sheet, where the mask is not 0 and n bytes have room for the words of its regions; or the verdict's refusal, 35 or 37.
+fn relocations_query<'a>(s: &'a [u8], given: u32, n: usize) -> Result<ReadableSheet<'a>, Refusal>
+    ensures { Passes result (relocations_refusal limits s.now given n) (λ sheet. sheet.bytes.now ≡ s.now) }
+{
+    let head = query::read_head(s)?;
+    let count = counted(s, head, given, n / 64)?;
+    query::refuse_if(n / 8 < 8 * count, 37)?;
+    Ok(ReadableSheet { bytes: s, head })
+}
 
 // ---- the region list
 
@@ -22,20 +65,9 @@ fn put_list(s: &[u8], given: u32, words: &mut [u8]) -> Result<PutRegions, Refusa
     ensures value { Passes result (relocations_refusal limits s.now given (length words.old)) (λ put. (put.count ≡ region_count (sheet_initializations s.now) given) × (option_of put.table ≡ page_table_at (sheet_initializations s.now) given)) }
     ensures words_after { words.new ≡ words_after limits s.now given words.old }
 {
-    let sheet = query::accepted(s, given)?;
-    match region_words::put_regions(&sheet, given, words) {
-        Some(put) => Ok(put),
-        None => Err(query::refusal(37)),
-    }
+    let sheet = relocations_query(s, given, words.len())?;
+    Ok(region_words::put_regions(&sheet, given, words))
 }
-
-const NO_PAGE_TABLE: PageTableRegion = PageTableRegion {
-    gpa: 0,
-    size: 0,
-    used_size: 0,
-    vp_index: 0,
-    vtl: 0,
-};
 
 // The answer of the call.
 fn found(refusal: Refusal, count: u64, table: Option<PageTableRegion>) -> Relocations
@@ -52,7 +84,7 @@ fn found(refusal: Refusal, count: u64, table: Option<PageTableRegion>) -> Reloca
             refusal,
             count,
             has_page_table: false,
-            page_table: NO_PAGE_TABLE,
+            page_table: regions::NO_PAGE_TABLE,
         },
     }
 }

@@ -56,7 +56,7 @@ fn judge_strictly<const N: usize, const M: usize>(
     kept: &mut KeptRegions<N, M>,
 ) -> Result<(), Refusal>
     requires started { (is_fault (start_fault limits s.now) ≡ false) × (head ≡ head_of s.now) }
-    requires room { ((head_of s.now).initializations ≤ N) × (N < M) }
+    requires room { ((head_of s.now).initializations ≤ N) × ((head_of s.now).initializations < M) }
     ensures { Passes result (strict_refusal limits s.now) (λ _. ⊤) }
 {
     let mut contexts: [u32; 3] = [0; 3];

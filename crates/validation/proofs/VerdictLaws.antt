@@ -59,9 +59,13 @@ module _ (l : Limits) (s : List ℕ) where
       or_else_first (sheet_refusal l s) _ u ∙ q
 
   -- none of these
-  pub sheet_none : is_fault (start_fault l s) ≡ false → is_refusal (rows_refusal s) ≡ false → in_row 0 (page_size_fault (head_of s)) ≡ no_refusal
+  pub sheet_none : is_fault (start_fault l s) ≡ false → is_refusal (rows_refusal s) ≡ false → is_refusal (in_row 0 (page_size_fault (head_of s))) ≡ false
       → is_refusal (sheet_refusal l s) ≡ false
-  sheet_none e r z = none_refuses (sheet_refusal l s) (sheet_end l s e r ∙ z)
+  sheet_none e r t = rw (sheet_end l s e r) t
+
+  pub sheet_unrefused : is_fault (start_fault l s) ≡ false → is_refusal (rows_refusal s) ≡ false → in_row 0 (page_size_fault (head_of s)) ≡ no_refusal
+      → is_refusal (sheet_refusal l s) ≡ false
+  sheet_unrefused e r z = none_refuses (sheet_refusal l s) (sheet_end l s e r ∙ z)
 
   -- the headers
   pub verdict_headers : is_refusal (sheet_refusal l s) ≡ false → verdict_refusal l s ≡ headers_refusal (sheet_headers s)
@@ -77,7 +81,7 @@ module _ (l : Limits) (s : List ℕ) where
       go true t = verdict_size e r (row_refuses 0 (page_size_fault (head_of s)) t)
       go false t =
           let z = no_fault_row 0 (page_size_fault (head_of s)) t in
-          verdict_headers (sheet_none e r z) ∙ headers_none (sheet_headers s) h ∙ sym z
+          verdict_headers (sheet_unrefused e r z) ∙ headers_none (sheet_headers s) h ∙ sym z
 
   -- ---- the answer
 
@@ -114,7 +118,7 @@ module _ (h : Headers) where
   pub headers_third : platforms_refusal h ≡ no_refusal → initializations_refusal h ≡ no_refusal → headers_refusal h ≡ directives_refusal h
   headers_third p i = headers_directives h (none_refuses (platforms_refusal h) p) (none_refuses (initializations_refusal h) i)
 
-pub ruleset verdicts = (started, started_rows, started_table, none_refuses, row_none, row_refuses, verdict_start, verdict_rows, verdict_size, sheet_none, verdict_headers)
+pub ruleset verdicts = (started, started_rows, started_table, none_refuses, row_none, row_refuses, verdict_start, verdict_rows, verdict_size, sheet_unrefused, verdict_headers)
 
 pub ruleset answers = (verdict_refused, verdict_accepted)
 

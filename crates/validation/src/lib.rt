@@ -168,7 +168,7 @@ pub fn judge_from<const N: usize, const M: usize>(
     contexts: &mut [u32; 3],
 ) -> Result<(), Refusal>
     requires s_value { (is_fault (start_fault limits s.now) ≡ false) × (head ≡ head_of s.now) × ReadTo s.now from × (first_directive s.now ≤ from.row → DirectivesAccepted s.now from contexts.old) }
-    requires room { ((head_of s.now).initializations ≤ N) × (N < M) }
+    requires room { ((head_of s.now).initializations ≤ N) × ((head_of s.now).initializations < M) }
     ensures { Passes result (verdict_refusal limits s.now) (λ _. Kept s.now kept.new.regions kept.new.rows kept.new.order.next contexts.new) }
 {
     *contexts = validate_from(s, head, from, *contexts)?;

@@ -42,7 +42,7 @@ accept-b-requires g c =
     let p = c.requires.s_value in let room = c.requires.room in
     let a = c.accept-first.ensures in let high = a.high in let b = bounds g e in
     let l : c.args.p ≤ c.accept-first.result.at.row = ltb-false _ _ (or_false_parts _ _ c.if-a-p.false).0 in
-    (omega arith, ((table_room _ p.0, a.read, omega (arith, l, p), rw (p.1, p.2)), ((b.platforms, b.initializations, p.4, (platforms g e).1), (rw (← p.2) room.0, room.1))))
+    (omega arith, ((table_room _ p.0, a.read, omega (arith, l, p), rw (p.1, p.2)), ((b.platforms, b.initializations, p.4, (platforms g e).1), (rw (← p.2) room))))
 
 pub accept_directives-requires : goal.accept_directives-requires
 accept_directives-requires g c =

@@ -10,7 +10,7 @@ accept-requires g c =
     let (start, h) = c.requires.s_value in let (few, room) = c.requires.room in
     let x = c.is_x64-x64.ensures ∙ ap is_x64 (c.arch.ensures ∙ ap arch_of (c.revision.ensures ∙ ap revision_of h) ∙ (sheet_counts _).arch) in
     let i = ap (λ (y : SheetHead). y.initializations) h in
-    (omega arith, ((start, ap (λ (y : SheetHead). y.platforms) h, i, c.rows.ensures ∙ ap row_count h, x), ((omega arith, room), c.requires.contexts_value)))
+    (omega arith, ((start, ap (λ (y : SheetHead). y.platforms) h, i, c.rows.ensures ∙ ap row_count h, x), ((omega arith, omega arith), c.requires.contexts_value)))
 
 pub returns : goal.returns
 returns g c =

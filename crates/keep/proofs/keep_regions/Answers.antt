@@ -21,7 +21,7 @@ overflow_cast-first-in-loop-i g c = let small = (row_room c.loop-i.invariant c.l
 
 pub keep_row-requires : goal.keep_row-requires
 keep_row-requires g c =
-    let (_, small, room) = row_room c.loop-i.invariant c.loop-i-test.true in let more = c.loop-i.invariant.room.1 in let by = c.loop-i.invariant.holds.order in
+    let (_, small, room, more) = row_room c.loop-i.invariant c.loop-i-test.true in let by = c.loop-i.invariant.holds.order in
     search rules
 
 pub loop-i-preserved : goal.loop-i-preserved

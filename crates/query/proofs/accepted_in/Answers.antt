@@ -3,10 +3,10 @@ use Rattle.query.proofs.QueryLaws.{query_readable}
 use Rattle.query.proofs.accepted_in.Goals as goal
 
 pub new-kept-requires : goal.new-kept-requires
-new-kept-requires g c = let (a, b, m) = c.requires.room in omega arith
+new-kept-requires g c = let (a, b, n, m) = c.requires.room in omega arith
 
 pub keep_for-requires : goal.keep_for-requires
-keep_for-requires g c = let (a, b, m) = c.requires.room in (omega arith, (c.requires.s_value, (a, b)))
+keep_for-requires g c = let (a, b, n, m) = c.requires.room in (omega arith, (c.requires.s_value, (a, b)))
 
 pub invariant_of-result : goal.invariant_of-result
 invariant_of-result g c =

@@ -10,6 +10,6 @@ pub returns : goal.returns
 returns g c =
     let (v, kept) = c.in_ok-judge.ensures in
     let e = ap (λ (y : SheetHead). y.initializations) c.requires.s_value.1 in
-    let room = c.requires.room.0 in
+    let room = c.requires.room in
     mask_passes c.args.s.now c.args.given v _ c.refuse_if.ensures
-    (λ x n. kept_for c.args.s.now c.args.given _ _ v n kept (omega arith))
+    (λ x n. kept_for c.args.s.now c.args.given _ _ v n kept (omega arith) (omega arith))

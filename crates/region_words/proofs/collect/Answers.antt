@@ -1,4 +1,5 @@
-use Rattle.rows.{proofs.Kit.{arith}}
+use Rattle.rows.proofs.Kit.{◌≡◌, ◌∙◌, ap, arith}
+use Rattle.sheet.{specs.declared.SheetHead.SheetHead, specs.Head.head_of}
 use Rattle.regions.proofs.TurnLaws.{all_rows_lem}
 use Rattle.region_words.proofs.{WalkLaws.{walk_none, walk_at, walk_room, walk_few, walk_next}}
 use Rattle.region_words.proofs.collect.Goals as goal
@@ -15,8 +16,8 @@ cursor_row-row-requires c = (walk_at c.loop.invariant c.args.s.now.head c.args.s
 pub cursor_body-b-requires : goal.cursor_body-b-requires
 cursor_body-b-requires c = (walk_at c.loop.invariant c.args.s.now.head c.args.s.now.head_is c.args.s.now.readable c.loop-test.true).listed.0
 
-pub first_table-table-requires : goal.first_table-table-requires
-first_table-table-requires c =
+pub first_table-found-requires : goal.first_table-found-requires
+first_table-found-requires c =
     let k = walk_at c.loop.invariant c.args.s.now.head c.args.s.now.head_is c.args.s.now.readable c.loop-test.true in
     rw (c.cursor_row-row.ensures.0, c.cursor_body-b.ensures) (k.listed.1, k.least)
 
@@ -35,10 +36,16 @@ loop-preserved c =
     let body = c.cursor_body-b.ensures in
     let p = c.put_region-count.ensures in
     walk_next c.loop.invariant c.args.s.now.head c.args.s.now.head_is c.args.s.now.readable c.loop-test.true _ _ _ _ row.1
-    (rw (row.0, body) at c.first_table-table.ensures) (rw (row.0, body) at p.value) (rw (row.0, body) at p.words_after)
+    (rw (row.0, body) at c.first_table-found.ensures) (rw (row.0, body) at p.value) (rw (row.0, body) at p.words_after)
+
+pub found_table-requires : goal.found_table-requires
+found_table-requires c =
+    let same = ap (λ (y : SheetHead). y.initializations) c.args.s.now.head_is in
+    let all : c.loop.counter ≡ (head_of c.args.s.now.bytes.now).initializations = omega arith in
+    rw all at c.loop.invariant.table.within
 
 pub returns : goal.returns
 returns c =
     let w = c.loop.invariant in
     let all = all_rows_lem c.args.s.now.bytes.now c.args.s.now.head c.args.s.now.head_is c.loop.counter (omega arith) in
-    record { table_value = (rw all at w.table_found, rw all at w.counted); words_after = rw all at w.words }
+    record { table_value = (c.found_table.ensures ∙ rw all at w.table.table, rw all at w.counted); words_after = rw all at w.words }

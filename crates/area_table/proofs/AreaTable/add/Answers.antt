@@ -12,4 +12,4 @@ pub returns : goal.returns
 returns g c = λ f h.
     let (place, in_bounds, large) = c.requires.place in
     let (empty, room) = c.requires.empty in
-    rw c.code.ensures (holds_put_new _ _ _ _ f h _ _ large _ place empty (omega arith))
+    holds_put_new _ _ _ _ f h _ _ large _ place empty (omega arith)

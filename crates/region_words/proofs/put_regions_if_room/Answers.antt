@@ -1,6 +1,6 @@
 use Rattle.rows.proofs.Kit.{ap, arith}
 use Rattle.sheet.{specs.declared.SheetHead.SheetHead, proofs.Readable.readable_bounds}
-use Rattle.region_words.proofs.put_regions.Goals as goal
+use Rattle.region_words.proofs.put_regions_if_room.Goals as goal
 
 pub put_through-requires-in_default : goal.put_through-requires-in_default
 put_through-requires-in_default c =
