@@ -23,7 +23,9 @@ use platform_check::Platforms;
 use reloc_regions::RelocRegions;
 use rules::Region;
 
-// 17, 18, 19 and 20 (gpa, minimum, maximum): a relocatable region alone.
+// 17, 18, 19 and 20 (gpa, minimum, maximum): a relocatable region alone. A function of its own in the compiled code too, so that an alignment stays in a register from its
+// test to the divisions behind it, and `tools/divisions.py` can tell.
+#[inline(never)]
 #[tactic(auto, unfolding(rules::specs::Initializations::validate_region, igvm_defs::specs::Refusals::is_fault))]
 fn validate_region(
     alignment: u64,
