@@ -10,7 +10,7 @@ use Rattle.answers.{specs.declared.Answered.Answered, specs.Verdict.{verdict_ref
 use Rattle.validation.proofs.VerdictLaws.{verdict_start}
 use Rattle.by_start.{specs.declared.KeptRegions.KeptRegions}
 use Rattle.keep.specs.Kept.{Kept}
-use Rattle.query.specs.KeptFor.{KeptFor}
+use Rattle.query.specs.KeptFor.{KeptFor, KeptWithin}
 
 -- a call that has this refusal is refused by r
 abbrev pub Stops : Refusal → Refusal → Type 0
@@ -44,9 +44,9 @@ module _ (s : List ℕ) (given : ℕ) where
 
   -- what is kept
   pub kept_for : {N M : ℕ} (kept : KeptRegions N M) (contexts : List ℕ) → verdict_refusal limits s ≡ no_refusal → given ≢ 0
-      → Kept s kept.regions kept.rows kept.order.next contexts → (head_of s).initializations ≤ N → (head_of s).initializations < M → KeptFor s given kept
+      → Kept s kept.regions kept.rows kept.order.next contexts → (head_of s).initializations ≤ N → KeptFor s given kept
   unfolding sheet_headers
-  kept_for kept contexts v n k h p =
+  kept_for kept contexts v n k h =
       let b = readable_bounds s (accepted_readable limits s (not_refused _ v)) in
       let few = k.regions.count in
       record {
@@ -54,9 +54,14 @@ module _ (s : List ℕ) (given : ℕ) where
         nonzero = n;
         regions = record { regions = k.regions; rows = rw (sheet_counts s).platforms k.rows; order = k.order };
         few = omega arith;
-        places = omega arith;
         most = omega (arith, b.initializations);
       }
+
+  -- and where the order has a place for each row
+  pub kept_within : {N M : ℕ} (kept : KeptRegions N M) (contexts : List ℕ) → verdict_refusal limits s ≡ no_refusal → given ≢ 0
+      → Kept s kept.regions kept.rows kept.order.next contexts → (head_of s).initializations ≤ N → (head_of s).initializations < M → KeptWithin s given kept
+  unfolding sheet_headers
+  kept_within kept contexts v n k h p = let few = k.regions.count in record { kept_for = kept_for kept contexts v n k h; places = omega arith }
 
   -- a query that is not refused is of an accepted sheet
   pub query_readable : query_refusal limits s given ≡ no_refusal → Readable limits s

@@ -13,5 +13,9 @@ pub record KeptFor {N M : ℕ} (s : List ℕ) (given : ℕ) (kept : KeptRegions 
   pub nonzero : given ≢ 0
   pub regions : KeptOf (sheet_headers s).platforms.count kept (sheet_headers s).initializations
   pub few : kept.regions.count ≤ N
-  pub places : kept.regions.count < M
   pub most : kept.regions.count ≤ initialization_rows
+
+-- and the order has a place behind the last of them
+pub record KeptWithin {N M : ℕ} (s : List ℕ) (given : ℕ) (kept : KeptRegions N M) : Type 0 where
+  pub kept_for : KeptFor s given kept
+  pub places : kept.regions.count < M
