@@ -10,7 +10,7 @@ use Rattle.answers.{specs.declared.Answered.Answered, specs.Verdict.{verdict_ref
 use Rattle.validation.proofs.VerdictLaws.{verdict_start}
 use Rattle.by_start.{specs.declared.KeptRegions.KeptRegions}
 use Rattle.keep.specs.Kept.{Kept}
-use Rattle.query.specs.KeptFor.{KeptFor, KeptWithin}
+use Rattle.query.specs.KeptFor.{KeptFor, KeptWithPlaces}
 
 -- a call that has this refusal is refused by r
 abbrev pub Stops : Refusal → Refusal → Type 0
@@ -57,11 +57,11 @@ module _ (s : List ℕ) (given : ℕ) where
         most = omega (arith, b.initializations);
       }
 
-  -- and where the order has a place for each row
-  pub kept_within : {N M : ℕ} (kept : KeptRegions N M) (contexts : List ℕ) → verdict_refusal limits s ≡ no_refusal → given ≢ 0
-      → Kept s kept.regions kept.rows kept.order.next contexts → (head_of s).initializations ≤ N → (head_of s).initializations < M → KeptWithin s given kept
+  -- the same, where the order has a place for each row
+  pub kept_with_places : {N M : ℕ} (kept : KeptRegions N M) (contexts : List ℕ) → verdict_refusal limits s ≡ no_refusal → given ≢ 0
+      → Kept s kept.regions kept.rows kept.order.next contexts → (head_of s).initializations ≤ N → (head_of s).initializations < M → KeptWithPlaces s given kept
   unfolding sheet_headers
-  kept_within kept contexts v n k h p = let few = k.regions.count in record { kept_for = kept_for kept contexts v n k h; places = omega arith }
+  kept_with_places kept contexts v n k h p = let few = k.regions.count in record { kept_for = kept_for kept contexts v n k h; places = omega arith }
 
   -- a query that is not refused is of an accepted sheet
   pub query_readable : query_refusal limits s given ≡ no_refusal → Readable limits s

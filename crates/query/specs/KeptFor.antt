@@ -15,7 +15,7 @@ pub record KeptFor {N M : ℕ} (s : List ℕ) (given : ℕ) (kept : KeptRegions 
   pub few : kept.regions.count ≤ N
   pub most : kept.regions.count ≤ initialization_rows
 
--- and the order has a place behind the last of them
-pub record KeptWithin {N M : ℕ} (s : List ℕ) (given : ℕ) (kept : KeptRegions N M) : Type 0 where
+-- the same, and the order has a place for the last region too
+pub record KeptWithPlaces {N M : ℕ} (s : List ℕ) (given : ℕ) (kept : KeptRegions N M) : Type 0 where
   pub kept_for : KeptFor s given kept
   pub places : kept.regions.count < M

@@ -5,7 +5,7 @@ ghost use Rattle.std.specs.Prelude.{◌≡◌, ℕ, true, false, ◌≤◌, ◌<
 ghost use Rattle.igvm_defs.specs.Refusals.{refusal, no_refusal, is_fault, is_refusal, Passes};
 ghost use Rattle.sheet.specs.Head.{initialization_rows, limits, head_of, start_fault};
 ghost use Rattle.answers.specs.Relocations.{query_refusal};
-ghost use Rattle.query.specs.KeptFor.{KeptWithin};
+ghost use Rattle.query.specs.KeptFor.{KeptWithPlaces};
 
 use answers::Answered;
 use by_start::KeptRegions;
@@ -69,7 +69,7 @@ pub fn keep_for<const N: usize, const M: usize>(
 ) -> Result<(), Refusal>
     requires s_value { (is_fault (start_fault limits s.now) ≡ false) × (head ≡ head_of s.now) }
     requires room { (head.initializations ≤ N) × (head.initializations < M) }
-    ensures { Passes result (query_refusal limits s.now given) (λ _. KeptWithin s.now given kept.new) }
+    ensures { Passes result (query_refusal limits s.now given) (λ _. KeptWithPlaces s.now given kept.new) }
 {
     let mut contexts: [u32; 3] = [0; 3];
     judge::judge(s, head, kept, &mut contexts)?;

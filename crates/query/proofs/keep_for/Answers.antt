@@ -1,6 +1,6 @@
 use Rattle.rows.proofs.Kit.{ap, arith}
 use Rattle.sheet.specs.declared.SheetHead.{SheetHead}
-use Rattle.query.proofs.QueryLaws.{verdict_thrown, mask_passes, kept_within}
+use Rattle.query.proofs.QueryLaws.{verdict_thrown, mask_passes, kept_with_places}
 use Rattle.query.proofs.keep_for.Goals as goal
 
 pub returns-in_err-judge : goal.returns-in_err-judge
@@ -12,4 +12,4 @@ returns g c =
     let e = ap (λ (y : SheetHead). y.initializations) c.requires.s_value.1 in
     let room = c.requires.room in
     mask_passes c.args.s.now c.args.given v _ c.refuse_if.ensures
-    (λ x n. kept_within c.args.s.now c.args.given _ _ v n kept (omega arith) (omega arith))
+    (λ x n. kept_with_places c.args.s.now c.args.given _ _ v n kept (omega arith) (omega arith))
